@@ -1,0 +1,2 @@
+//! Engines: each turns the fits of one reading after another into mark words.
+pub mod engine;
