@@ -1,0 +1,5 @@
+//! Refusals, and the parts that every text is read by: digit words, numbers and marks.
+pub mod lexer;
+pub mod mark;
+pub mod number;
+pub mod refusal;
