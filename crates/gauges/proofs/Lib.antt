@@ -1,0 +1,5 @@
+pub mod Members
+pub mod Flips
+pub mod Tables
+pub mod Ends
+pub mod Events

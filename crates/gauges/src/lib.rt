@@ -1,0 +1,3 @@
+//! The gauges: each says for its kind of reading which slots a reading fits.
+pub mod codes;
+pub mod event;
