@@ -1,1 +1,3 @@
 pub mod Gaps
+pub mod Steps
+pub mod Marked
