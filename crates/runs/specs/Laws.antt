@@ -13,6 +13,10 @@ use Rattle.runs.specs.Runs.{Pattern, lastSlot, slots, place, fitsAt, Near, Run
 use Rattle.runs.specs.Words.{mark, word, words, hits, trace}
 
 module _ {R : Type 0} (P : Pattern R) where
+  -- place k bears the same marks over both lists of readings
+  abbrev pub Alike : List R → List R → ℕ → Type 0
+  Alike xs ys k = (j : ℕ) → j < slots P → Mark P xs j k ↔ Mark P ys j k
+
   -- Marks follow from the reading and from earlier marks; they are what is computed.
   pub record Marks (xs : List R) : Type 0 where
     pub first : (p : ℕ) → Mark P xs 0 p ↔ (fitsAt P xs 0 p ≡ true)
