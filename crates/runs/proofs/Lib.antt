@@ -5,3 +5,5 @@ pub mod Worded
 pub mod Local
 pub mod Traced
 pub mod Theorem
+pub mod Stopped
+pub mod Listed

@@ -10,6 +10,8 @@ use Rattle.runs.specs.Laws.{Laws}
 use Rattle.runs.proofs.Marked.{marks}
 use Rattle.runs.proofs.Worded.{told}
 use Rattle.runs.proofs.Local.{within-run}
+use Rattle.runs.proofs.Listed.{found}
+use Rattle.runs.proofs.Stopped.{felt, counted}
 use Rattle.runs.proofs.Traced.{traces, final}
 
 pub nth-set : {R : Type 0} (xs : List R) (p : ℕ) (v : R) (k : ℕ) → k ≢ p → nth xs k ≡ nth (set xs p v) k
@@ -28,6 +30,9 @@ pub laws : {R : Type 0} → Laws R
 laws = record {
   marks = marks;
   told = told;
+  found = found;
+  felt = felt;
+  counted = counted;
   traces = traces;
   within = λ P xs p ps r end h l. omega (arith, within-run P xs p ps r end h l);
   final = final;

@@ -10,6 +10,7 @@ use native.Mathlib.Nat.{pow-succ', div-eq-of-lt}
 use lib.Dec.{eqb, lit<}
 use lib.Pow.{shr-shr, pow-mono}
 use lib.ListN.{length, getD}
+use Rattle.std.specs.declared.option.Option.the-variants.{None}
 use Rattle.std.specs.Finite.{nth}
 use Rattle.std.specs.Orderings.{Decides}
 use Rattle.std.proofs.shelf.Tests.{cases-lt, cond-both}
@@ -81,15 +82,18 @@ module _ {R : Type 0} (P : Pattern R) where
   pub bit-decides : (xs : List R) (j p : ℕ) → j < slots P → Decides (bit (word P xs p) j) (Mark P xs j p)
   bit-decides xs j p b = decides-at (bit (word P xs p) j) (mark P xs j p) (bit-mark xs j p b) (mark-decides P xs j p)
 
-  -- past the last reading there is no mark
-  pub mark-past : (xs : List R) (j p : ℕ) → length xs ≤ p → mark P xs j p ≡ false
+  -- where there is no reading there is no mark
+  pub mark-none : (xs : List R) (j p : ℕ) → nth xs p ≡ None → mark P xs j p ≡ false
   unfolding mark
-  mark-past xs zero p l = rw (nth-past xs p l)
-  mark-past xs (suc j) p l = rw (nth-past xs p l)
+  mark-none xs zero p none = rw none
+  mark-none xs (suc j) p none = rw none
+
+  pub word-none : (xs : List R) (p : ℕ) → nth xs p ≡ None → word P xs p ≡ 0
+  unfolding word
+  word-none xs p none = bits-none (λ j. mark P xs j p) (slots P) (λ j _. mark-none xs j p none)
 
   pub word-past : (xs : List R) (p : ℕ) → length xs ≤ p → word P xs p ≡ 0
-  unfolding word
-  word-past xs p l = bits-none (λ j. mark P xs j p) (slots P) (λ j _. mark-past xs j p l)
+  word-past xs p l = word-none xs p (nth-past xs p l)
 
   pub length-words : (xs : List R) → length (words P xs) ≡ length xs
   length-words xs = length-map-counting (word P xs) 0 (length xs)

@@ -7,10 +7,11 @@ use Prim.Native.Nat.{ℕ, suc, _+_, _-_, _^_, _<_, _≤_}
 use lib.ListN.{length, getD, set}
 use Rattle.std.specs.Orderings.{Decides}
 use Rattle.std.specs.Finite.{nth}
+use Rattle.std.specs.shelf.Lists.{Has}
 use Rattle.runs.specs.Gaps.{reach, window}
 use Rattle.runs.specs.Bits.{bit}
 use Rattle.runs.specs.Runs.{Pattern, lastSlot, slots, place, fitsAt, Near, Run, Mark, Hit, Trace, Earlier}
-use Rattle.runs.specs.Words.{mark, word, words, hits, trace}
+use Rattle.runs.specs.Words.{mark, word, words, hits, trace, Settled, reworked}
 
 module _ {R : Type 0} (P : Pattern R) where
   -- place k bears the same marks over both lists of readings
@@ -31,6 +32,20 @@ module _ {R : Type 0} (P : Pattern R) where
     pub narrow : slots P ≤ 32 → word P xs p < 2 ^ 32
     pub listed : getD (words P xs) p 0 ≡ word P xs p
 
+  -- The hits, lowest first.
+  pub record Found (xs : List R) : Type 0 where
+    pub all : (p : ℕ) → Hit P xs p ↔ Has (hits P xs) p
+    pub rising : (i k : ℕ) → i < k → k < length (hits P xs) → getD (hits P xs) i 0 < getD (hits P xs) k 0
+
+  -- Where two lists of readings differ at place p alone: how far that is felt, and when all later words are the former ones.
+  pub record Felt (xs ys : List R) (p : ℕ) : Type 0 where
+    pub before : (k : ℕ) → k < p → Alike xs ys k
+    pub beyond : (k : ℕ) → p + reach (P .gaps) ≤ k → Alike xs ys k
+    pub stop : (q : ℕ) → p ≤ q → Settled (window (P .gaps)) p (words P xs) (words P ys) q → (k : ℕ) → q < k → word P ys k ≡ word P xs k
+    pub soon : (q : ℕ) → p + reach (P .gaps) + window (P .gaps) ≤ suc q → Settled (window (P .gaps)) p (words P xs) (words P ys) q
+    pub few : p < length ys → reworked (window (P .gaps)) p (words P xs) (words P ys) ≤ reach (P .gaps) + window (P .gaps)
+    pub rest : p < length ys → (k : ℕ) → p + reworked (window (P .gaps)) p (words P xs) (words P ys) ≤ k → word P ys k ≡ word P xs k
+
   -- A hit's trace is computed; no other list is one; it is a run; every other run to the hit has the earlier place where they first differ, going back.
   pub record Traces (xs : List R) (p : ℕ) : Type 0 where
     pub computed : Hit P xs p → Trace P xs p (trace P xs p)
@@ -43,9 +58,18 @@ module _ {R : Type 0} (P : Pattern R) where
     pub hits : (p : ℕ) → p < line → Hit P xs p ↔ Hit P ys p
     pub traces : (p : ℕ) → p < line → (ps : List ℕ) → Trace P xs p ps ↔ Trace P ys p ps
 
+-- n places, from p on, are all up to the first settled one, or up to the last
+pub record Counted (w p : ℕ) (former new : List ℕ) (n : ℕ) : Type 0 where
+  pub some : (0 < n) × (p + n ≤ length new)
+  pub unsettled : (q : ℕ) → p ≤ q → suc q < p + n → Settled w p former new q → ⊥
+  pub end : Settled w p former new (p + n - 1) ⊎ (p + n ≡ length new)
+
 pub record Laws (R : Type 0) : Type 0 where
   pub marks : (P : Pattern R) (xs : List R) → Marks P xs
   pub told : (P : Pattern R) (xs : List R) (p : ℕ) → Told P xs p
+  pub found : (P : Pattern R) (xs : List R) → Found P xs
+  pub felt : (P : Pattern R) (xs ys : List R) (p : ℕ) → ((k : ℕ) → k ≢ p → nth xs k ≡ nth ys k) → Felt P xs ys p
+  pub counted : (w p : ℕ) (former new : List ℕ) → p < length new → (n : ℕ) → (reworked w p former new ≡ n) ↔ Counted w p former new n
   pub traces : (P : Pattern R) (xs : List R) (p : ℕ) → Traces P xs p
   -- a run to p has no place below p + 1 - reach
   pub within : (P : Pattern R) (xs : List R) (p : ℕ) (ps : List ℕ) → Run P xs (slots P) ps → place ps (lastSlot P) ≡ p →
