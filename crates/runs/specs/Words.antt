@@ -1,12 +1,12 @@
 -- Marks, words, hits and traces as they are computed, and how many places a change makes one rework.
 use mathlib.Core.Path.{_≡_}
-use mathlib.Core.Bool.{Bool, true, false, cond, _&&_, _||_}
+use mathlib.Core.Bool.{Bool, true, false, cond, not, _&&_, _||_}
 use mathlib.Core.List.{List, [], _∷_, _++_, map}
 use Prim.Native.Nat.{ℕ, zero, suc, _+_, _-_, _*_, _<_, _≤_, min}
 use lib.Dec.{ltb, leb, eqb}
 use lib.ListN.{length, getD}
 use Rattle.std.specs.Iters.{counting}
-use Rattle.std.specs.shelf.Lists.{kept-by}
+use Rattle.std.specs.shelf.Lists.{kept-by, leading}
 use Rattle.runs.specs.Gaps.{low, high}
 use Rattle.runs.specs.Runs.{Pattern, lastSlot, slots, fitsAt}
 
@@ -19,14 +19,10 @@ abbrev pub every : (ℕ → Bool) → ℕ → Bool
 every test zero = true
 every test (suc n) = test n && every test n
 
--- the last number below n at which the test passes, or 0; the first one, or n
+-- the last number below n at which the test passes, or 0
 abbrev pub last : (ℕ → Bool) → ℕ → ℕ
 last test zero = 0
 last test (suc n) = cond (test n) n (last test n)
-
-abbrev pub first : (ℕ → Bool) → ℕ → ℕ
-first test zero = 0
-first test (suc n) = cond (test 0) 0 (suc (first (λ i. test (suc i)) n))
 
 -- the number whose bit j is `test j`, for each j below n
 abbrev pub bits : (ℕ → Bool) → ℕ → ℕ
@@ -73,6 +69,6 @@ Settled w p former new q = (k : ℕ) → p ≤ k → k ≤ q → q < k + w → g
 abbrev pub settled : ℕ → ℕ → List ℕ → List ℕ → ℕ → Bool
 settled w p former new q = every (λ d. eqb (getD new (q - d) 0) (getD former (q - d) 0)) (min w (suc (q - p)))
 
--- how many places are reworked after a change at place p: from p up to the first settled one, or else to the last
+-- How many places are reworked after a change at place p: those in front that are not settled, and one more, but none past the last.
 unfoldable pub reworked : ℕ → ℕ → List ℕ → List ℕ → ℕ
-reworked w p former new = suc (first (λ i. settled w p former new (p + i)) (length new - suc p))
+reworked w p former new = suc (leading (λ q. not (settled w p former new q)) (counting p (length new - suc p)))
