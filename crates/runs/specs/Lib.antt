@@ -4,3 +4,4 @@ pub mod Bits
 pub mod Runs
 pub mod Words
 pub mod Laws
+pub mod Sheets
