@@ -7,3 +7,5 @@ pub mod Traced
 pub mod Theorem
 pub mod Stopped
 pub mod Listed
+pub mod Windowed
+pub mod Next

@@ -28,7 +28,7 @@ low : (b : Bool) (x : ℕ) → ((cond b 1 0 + 2 * x) / 2 ≡ x) × ((cond b 1 0 
 low true x = omega arith
 low false x = omega arith
 
-halved : (x j : ℕ) → x / 2 ^ suc j ≡ x / 2 / 2 ^ j
+pub halved : (x j : ℕ) → x / 2 ^ suc j ≡ x / 2 / 2 ^ j
 halved x j = sym (rw one-add at (shr-shr x 1 j))
 
 bits-at : (f : ℕ → Bool) (n j : ℕ) → j < n → bits f n / 2 ^ j % 2 ≡ cond (f j) 1 0
