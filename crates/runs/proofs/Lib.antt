@@ -9,3 +9,6 @@ pub mod Stopped
 pub mod Listed
 pub mod Windowed
 pub mod Next
+pub mod Repaired
+pub mod Below
+pub mod Scanned
