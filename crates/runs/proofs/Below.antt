@@ -21,13 +21,7 @@ use Rattle.runs.proofs.Worded.{word-alike, bit-mark, length-words, getD-words}
 use Rattle.runs.proofs.Local.{alike-below}
 use Rattle.runs.proofs.Listed.{kept-more}
 use Rattle.runs.proofs.Traced.{trace-is, trace-only, final}
-use Rattle.runs.proofs.Theorem.{nth-append}
-
-pub nth-take : {R : Type 0} (n : ℕ) (xs : List R) (k : ℕ) → k < n → nth (take n xs) k ≡ nth xs k
-nth-take zero xs k l = absurd (omega arith)
-nth-take (suc n) [] k l = refl
-nth-take (suc n) (x ∷ xs) zero l = refl
-nth-take (suc n) (x ∷ xs) (suc k) l = nth-take n xs k (omega arith)
+use Rattle.runs.proofs.Nth.{nth-take}
 
 kept-same : (f g : ℕ → Bool) (a n : ℕ) → ((k : ℕ) → a ≤ k → k < a + n → f k ≡ g k) → kept-by f (counting a n) ≡ kept-by g (counting a n)
 kept-same f g a zero same = refl
@@ -56,8 +50,8 @@ module _ {R : Type 0} (P : Pattern R) where
       let cut = length-take-le n (words P xs) (omega arith) in
       let same = length-words P (take n xs) in
       ext-getD 0 (words P (take n xs)) (take n (words P xs)) (omega arith) (λ k b.
-          let kn : k < n = omega arith in
-          getD-words P (take n xs) k ∙ word-same (take n xs) xs n (nth-take n xs) k kn ∙ sym (getD-take n (words P xs) k 0 kn ∙ getD-words P xs k))
+      let kn : k < n = omega arith in
+      getD-words P (take n xs) k ∙ word-same (take n xs) xs n (nth-take n xs) k kn ∙ sym (getD-take n (words P xs) k 0 kn ∙ getD-words P xs k))
 
   pub words-append : (xs ys : List R) → take (length xs) (words P (xs ++ ys)) ≡ words P xs
   words-append xs ys =

@@ -1,30 +1,15 @@
 -- All the laws.
-use mathlib.Core.Path.{_≡_, refl, ap}
-use mathlib.Core.Logic.{_≢_}
-use mathlib.Core.List.{List, [], _∷_, _++_}
-use Prim.Native.Nat.{ℕ, zero, suc, _<_}
+use mathlib.Core.List.{_++_}
 use native.Mathlib.Omega.{arith}
 use lib.ListN.{length, set}
-use Rattle.std.specs.Finite.{nth}
 use Rattle.runs.specs.Laws.{Laws}
+use Rattle.runs.proofs.Nth.{nth-set, nth-append}
 use Rattle.runs.proofs.Marked.{marks}
 use Rattle.runs.proofs.Worded.{told}
 use Rattle.runs.proofs.Local.{within-run}
 use Rattle.runs.proofs.Listed.{found}
 use Rattle.runs.proofs.Stopped.{felt, counted}
 use Rattle.runs.proofs.Traced.{traces, final}
-
-pub nth-set : {R : Type 0} (xs : List R) (p : ℕ) (v : R) (k : ℕ) → k ≢ p → nth xs k ≡ nth (set xs p v) k
-nth-set [] p v k ne = refl
-nth-set (x ∷ xs) zero v zero ne = absurd (ne refl)
-nth-set (x ∷ xs) zero v (suc k) ne = refl
-nth-set (x ∷ xs) (suc p) v zero ne = refl
-nth-set (x ∷ xs) (suc p) v (suc k) ne = nth-set xs p v k (λ e. ne (ap suc e))
-
-pub nth-append : {R : Type 0} (xs ys : List R) (k : ℕ) → k < length xs → nth xs k ≡ nth (xs ++ ys) k
-nth-append [] ys k l = absurd (omega arith)
-nth-append (x ∷ xs) ys zero l = refl
-nth-append (x ∷ xs) ys (suc k) l = nth-append xs ys k (omega arith)
 
 pub laws : {R : Type 0} → Laws R
 laws = record {

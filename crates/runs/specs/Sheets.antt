@@ -24,8 +24,10 @@ current target tolerance = record { sets = λ _ x. leb (natAbs (x -ℤ pos targe
 -- 10-x(0,2)-[20 21], six readings, and the words where the reading at place p becomes v, with the count of the places reworked
 abbrev soon : Pattern ℕ
 soon = events ((10 ∷ []) ∷ (20 ∷ 21 ∷ []) ∷ []) (gap 0 2 ∷ [])
+
 abbrev six : List ℕ
 six = 10 ∷ 20 ∷ 5 ∷ 21 ∷ 10 ∷ 21 ∷ []
+
 abbrev amended : ℕ → ℕ → List ℕ × ℕ
 amended p v = let new = words soon (set six p v) in (new, reworked (window (soon .gaps)) p (words soon six) new)
 

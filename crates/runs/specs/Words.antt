@@ -10,7 +10,7 @@ use Rattle.std.specs.shelf.Lists.{kept-by, leading}
 use Rattle.runs.specs.Gaps.{low, high}
 use Rattle.runs.specs.Runs.{Pattern, lastSlot, slots, fitsAt}
 
--- the test passes at some number below n; at every number below n
+-- the test passes at some number below n; and at every one
 abbrev pub some : (ℕ → Bool) → ℕ → Bool
 some test zero = false
 some test (suc n) = test n || some test n
@@ -30,7 +30,7 @@ bits test zero = 0
 bits test (suc n) = cond (test 0) 1 0 + 2 * bits (λ j. test (suc j)) n
 
 module _ {R : Type 0} (P : Pattern R) where
-  -- as `Near`
+  -- whether q and p are `Near` by gap h
   abbrev pub near : ℕ → ℕ → ℕ → Bool
   near h q p = ltb q p && (leb (low (P .gaps) h) (p - suc q) && leb (p - suc q) (high (P .gaps) h))
 
@@ -39,7 +39,7 @@ module _ {R : Type 0} (P : Pattern R) where
   mark xs zero p = fitsAt P xs 0 p
   mark xs (suc j) p = fitsAt P xs (suc j) p && some (λ q. near j q p && mark xs j q) p
 
-  -- the mark word of place p: bit j says whether it bears mark j
+  -- the mark word of place p: bit j says whether it bears mark j, and there are no further bits
   unfoldable pub word : List R → ℕ → ℕ
   word xs p = bits (λ j. mark xs j p) (slots P)
 
@@ -54,7 +54,7 @@ module _ {R : Type 0} (P : Pattern R) where
   unfoldable pub before : List R → ℕ → ℕ → ℕ
   before xs j p = last (λ q. near j q p && mark xs j q) p
 
-  -- the places of the slots 0 .. j, back from p; of all slots
+  -- the places of the slots 0 .. j, back from p; and of all slots
   abbrev pub traceTo : List R → ℕ → ℕ → List ℕ
   traceTo xs zero p = p ∷ []
   traceTo xs (suc j) p = traceTo xs j (before xs j p) ++ (p ∷ [])
@@ -62,13 +62,13 @@ module _ {R : Type 0} (P : Pattern R) where
   unfoldable pub trace : List R → ℕ → List ℕ
   trace xs p = traceTo xs (lastSlot P) p
 
--- With window w and a change at place p: each place from max(p, q - w + 1) up to q bears its former word.
+-- With window w, after a change at place p: each place from max(p, q - w + 1) up to q bears its former word. Then q is settled.
 abbrev pub Settled : ℕ → ℕ → List ℕ → List ℕ → ℕ → Type 0
 Settled w p former new q = (k : ℕ) → p ≤ k → k ≤ q → q < k + w → getD new k 0 ≡ getD former k 0
 
 abbrev pub settled : ℕ → ℕ → List ℕ → List ℕ → ℕ → Bool
 settled w p former new q = every (λ d. eqb (getD new (q - d) 0) (getD former (q - d) 0)) (min w (suc (q - p)))
 
--- How many places are reworked after a change at place p: those in front that are not settled, and one more, but none past the last.
+-- The stopping rule's count, of the places to rework from p on: all before the first settled one, and that one; or all, where none is.
 unfoldable pub reworked : ℕ → ℕ → List ℕ → List ℕ → ℕ
 reworked w p former new = suc (leading (λ q. not (settled w p former new q)) (counting p (length new - suc p)))
