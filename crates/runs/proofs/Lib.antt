@@ -1,1 +1,16 @@
 pub mod Gaps
+pub mod Steps
+pub mod Nth
+pub mod Marked
+pub mod Worded
+pub mod Local
+pub mod Traced
+pub mod Listed
+pub mod Stopped
+pub mod Theorem
+pub mod Windowed
+pub mod Next
+pub mod Repaired
+pub mod Below
+pub mod Scanned
+pub mod Patterns

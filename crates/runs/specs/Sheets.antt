@@ -1,0 +1,54 @@
+-- Worked sheets: small signatures with their readings, and the words, hits, traces and counts that they have.
+use mathlib.Core.Path.{_≡_}
+use mathlib.Core.List.{List, [], _∷_, map}
+use Prim.Native.Nat.{ℕ}
+use lib.Dec.{leb, eqb}
+use lib.IntN.{ℤ, pos, natAbs, _-ℤ_}
+use lib.ListN.{length, getD, set}
+use Rattle.runs.specs.declared.gap.Gap.{Gap}
+use Rattle.runs.specs.Gaps.{reach, window}
+use Rattle.runs.specs.Runs.{Pattern}
+use Rattle.runs.specs.Words.{some, words, hits, trace, reworked}
+
+abbrev gap : ℕ → ℕ → Gap
+gap lo hi = record { lo = lo; hi = hi }
+
+-- slots of events, each a list, and the gaps between them
+abbrev events : List (List ℕ) → List Gap → Pattern ℕ
+events slots gaps = record { sets = λ h x. some (λ i. eqb (getD (getD slots h []) i 0) x) (length (getD slots h [])); gaps = gaps }
+
+-- one slot: the currents that differ from the target by the tolerance at most
+abbrev current : ℕ → ℕ → Pattern ℤ
+current target tolerance = record { sets = λ _ x. leb (natAbs (x -ℤ pos target)) tolerance; gaps = [] }
+
+-- 10-x(0,2)-[20 21], six readings, and the words where the reading at place p becomes v, with the count of the places reworked
+abbrev soon : Pattern ℕ
+soon = events ((10 ∷ []) ∷ (20 ∷ 21 ∷ []) ∷ []) (gap 0 2 ∷ [])
+
+abbrev six : List ℕ
+six = 10 ∷ 20 ∷ 5 ∷ 21 ∷ 10 ∷ 21 ∷ []
+
+abbrev amended : ℕ → ℕ → List ℕ × ℕ
+amended p v = let new = words soon (set six p v) in (new, reworked (window (soon .gaps)) p (words soon six) new)
+
+-- 1-2-x(0,3)-3
+abbrev triple : Pattern ℕ
+triple = events ((1 ∷ []) ∷ (2 ∷ []) ∷ (3 ∷ []) ∷ []) (gap 0 0 ∷ gap 0 3 ∷ [])
+
+-- 1-x(2,3)-2
+abbrev apart : Pattern ℕ
+apart = events ((1 ∷ []) ∷ (2 ∷ []) ∷ []) (gap 2 3 ∷ [])
+
+pub record Sheets : Type 0 where
+  pub first : (words soon six ≡ 1 ∷ 2 ∷ 0 ∷ 2 ∷ 1 ∷ 2 ∷ []) × (reach (soon .gaps) ≡ 4) × (window (soon .gaps) ≡ 3)
+  pub lost : amended 0 5 ≡ (0 ∷ 0 ∷ 0 ∷ 0 ∷ 1 ∷ 2 ∷ [], 6)
+  pub idle : amended 2 7 ≡ (words soon six, 1)
+  -- The 2 at place 3 fits with no 1 before it. A reader that then forgets the 2 at place 1 loses the hit, and one that traces back to the
+  -- nearest reading that fits gives place 3.
+  pub kept : (words triple (1 ∷ 2 ∷ 9 ∷ 2 ∷ 3 ∷ []) ≡ 1 ∷ 2 ∷ 0 ∷ 0 ∷ 4 ∷ []) × (trace triple (1 ∷ 2 ∷ 9 ∷ 2 ∷ 3 ∷ []) 4 ≡ 0 ∷ 1 ∷ 4 ∷ [])
+  -- The 1 at place 2 is too near. A reader that keeps only the latest end of each slot loses the hit.
+  pub older : (words apart (1 ∷ 9 ∷ 1 ∷ 2 ∷ []) ≡ 1 ∷ 0 ∷ 1 ∷ 2 ∷ []) × (trace apart (1 ∷ 9 ∷ 1 ∷ 2 ∷ []) 3 ≡ 0 ∷ 3 ∷ [])
+  pub too-near : words apart (1 ∷ 9 ∷ 2 ∷ []) ≡ 1 ∷ 0 ∷ 0 ∷ []
+  pub too-far : (hits apart (1 ∷ 9 ∷ 9 ∷ 9 ∷ 9 ∷ 2 ∷ []) ≡ []) × (hits apart (1 ∷ 9 ∷ 9 ∷ 9 ∷ 2 ∷ []) ≡ 4 ∷ [])
+  pub both : words (events ((5 ∷ []) ∷ (5 ∷ []) ∷ []) (gap 0 0 ∷ [])) (5 ∷ 5 ∷ 5 ∷ []) ≡ 1 ∷ 3 ∷ 3 ∷ []
+  pub currents : words (current 100 5) (pos 94 ∷ pos 95 ∷ pos 105 ∷ pos 106 ∷ []) ≡ 0 ∷ 1 ∷ 1 ∷ 0 ∷ []
