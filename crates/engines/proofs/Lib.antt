@@ -7,3 +7,4 @@ pub mod Looking
 pub mod Recalled
 pub mod Fields
 pub mod Laid
+pub mod Masked

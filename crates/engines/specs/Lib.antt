@@ -1,3 +1,4 @@
 pub mod Memory
 pub mod Blocks
 pub mod Fields
+pub mod Masked

@@ -24,10 +24,8 @@ impl Word {
         ensures shape { λ r. ⌜ Blank (r .layout .signature) ⌝ }
         ensures memory { λ r. ⌜ ((j d : ℕ) → fieldsSay (gapsOf (r .layout .signature)) (r .memory) j d ≡ false) ⌝ }
     {
-        Word {
-            layout: Layout::new(&Signature::new()),
-            memory: 0,
-        }
+        let layout = Layout::new(&Signature::new());
+        Word { layout, memory: 0 }
     }
 
     // Each field moves by one place, and takes its bit of `word`.
