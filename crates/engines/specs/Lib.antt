@@ -1,1 +1,4 @@
 pub mod Memory
+pub mod Blocks
+pub mod Fields
+pub mod Masked

@@ -1,9 +1,9 @@
 -- What an engine remembers, and what a step makes of it.
 use mathlib.Core.Path.{_≡_}
 use mathlib.Core.Bool.{Bool, true, false}
-use mathlib.Core.List.{List, [], _∷_, reverse}
+use mathlib.Core.List.{List, reverse}
 use Prim.Native.Nat.{ℕ, suc, _<_, _≤_}
-use lib.ListN.{getD}
+use lib.ListN.{length, getD}
 use Rattle.std.specs.Orderings.{Decides}
 use Rattle.runs.specs.declared.gap.Gap.{Gap}
 use Rattle.runs.specs.declared.signature.Signature.{Signature}
@@ -43,7 +43,13 @@ module _ (s : Signature) where
   abbrev pub Same : Memory → Memory → Type 0
   Same says after = (j d : ℕ) → suc j < s .slots → d ≤ high (gapsOf s) j → after j d ≡ says j d
 
-  -- one step after another, from the fits of neighbouring places to their words
-  pub data Chain : Memory → List ℕ → List ℕ → Memory → Type 0 where
-    done : {says after : Memory} → Same says after → Chain says [] [] after
-    step : {says middle after : Memory} {f w : ℕ} {fs ws : List ℕ} → Stepped says f w → Moved says w middle → Chain middle fs ws after → Chain says (f ∷ fs) (w ∷ ws) after
+  -- the first n words come of the first n fits by one step after another, from the memory `says` to another
+  pub data Steps (fits words : List ℕ) (says : Memory) : ℕ → Memory → Type 0 where
+    none : {after : Memory} → Same says after → Steps fits words says 0 after
+    more : {n : ℕ} {middle after : Memory} → Steps fits words says n middle → Stepped middle (getD fits n 0) (getD words n 0) → Moved middle (getD words n 0) after
+        → Steps fits words says (suc n) after
+
+  -- the words of neighbouring places with these fits, by one step after another
+  pub record Chain (says : Memory) (fits words : List ℕ) (after : Memory) : Type 0 where
+    pub long : length words ≡ length fits
+    pub steps : Steps fits words says (length fits) after

@@ -1,2 +1,8 @@
 //! Engines: each turns the fits of one reading after another into mark words.
 pub mod engine;
+mod layout;
+pub mod mask;
+mod ones;
+mod shape;
+mod windows;
+pub mod word;

@@ -1,0 +1,23 @@
+-- The gaps between the slots of a signature: ordered, narrow, and one fewer than the slots.
+use mathlib.Core.Path.{_≡_, refl, ap}
+use Prim.Native.Nat.{ℕ, suc, _-_, _<_, _≤_}
+use native.Mathlib.Omega.{arith}
+use lib.ListN.{length, getD, take}
+use Rattle.std.proofs.shelf.Lists.{getD-take, length-take-le}
+use Rattle.runs.specs.declared.gap.Gap.{Gap}
+use Rattle.runs.specs.declared.signature.Signature.{Signature}
+use Rattle.runs.specs.Gaps.{low, high, noGap}
+use Rattle.runs.specs.Signatures.{gapsOf}
+
+module _ (s : Signature) where
+  pub gaps-length : length (gapsOf s) ≡ s .slots - 1
+  gaps-length = length-take-le (s .slots - 1) (s .gaps) (omega (arith, s .few, s .long))
+
+  same : (j : ℕ) → suc j < s .slots → getD (gapsOf s) j noGap ≡ getD (s .gaps) j noGap
+  same j l = getD-take (s .slots - 1) (s .gaps) j noGap (omega arith)
+
+  pub gap-ordered : (j : ℕ) → suc j < s .slots → low (gapsOf s) j ≤ high (gapsOf s) j
+  gap-ordered j l = omega (arith, ap (λ (g : Gap). g .lo) (same j l), ap (λ (g : Gap). g .hi) (same j l), s .ordered j (omega (arith, s .few)))
+
+  pub gap-narrow : (j : ℕ) → suc j < s .slots → high (gapsOf s) j ≤ 63
+  gap-narrow j l = omega (arith, ap (λ (g : Gap). g .hi) (same j l), s .narrow j (omega (arith, s .few)))
