@@ -44,7 +44,7 @@ pub record Sheets : Type 0 where
   pub six-words : (words pair six ≡ 1 ∷ 2 ∷ 0 ∷ 2 ∷ 1 ∷ 2 ∷ []) × (reach (pair .gaps) ≡ 4) × (window (pair .gaps) ≡ 3)
   pub amended-first : amended 0 5 ≡ (0 ∷ 0 ∷ 0 ∷ 0 ∷ 1 ∷ 2 ∷ [], 6)
   pub amended-idle : amended 2 7 ≡ (words pair six, 1)
-  -- The 2 at place 3 fits slot 1 with no 1 before it. To forget slot 1's end at place 1 for that loses the hit, and to trace back to the
+  -- The 2 at place 3 fits slot 1 with no 1 right before it. To forget slot 1's end at place 1 for that loses the hit, and to trace back to the
   -- nearest reading that fits gives place 3.
   pub end-kept : (words triple (1 ∷ 2 ∷ 9 ∷ 2 ∷ 3 ∷ []) ≡ 1 ∷ 2 ∷ 0 ∷ 0 ∷ 4 ∷ []) ×
       (trace triple (1 ∷ 2 ∷ 9 ∷ 2 ∷ 3 ∷ []) 4 ≡ 0 ∷ 1 ∷ 4 ∷ [])
