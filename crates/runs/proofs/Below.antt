@@ -1,12 +1,10 @@
 -- Words, hits and traces of the first readings alone.
-use mathlib.Core.Path.{_≡_, refl, sym, ap, subst, _∙_}
-use mathlib.Core.Bool.{Bool, true, false, cond}
-use mathlib.Core.Logic.{_↔_}
+use mathlib.Core.Path.{_≡_, refl, sym, ap, _∙_}
+use mathlib.Core.Bool.{Bool, cond}
 use mathlib.Core.List.{List, [], _∷_, _++_, map}
-use Prim.Native.Nat.{ℕ, zero, suc, _+_, _-_, _<_, _≤_}
+use Prim.Native.Nat.{ℕ, zero, suc, _+_, _<_, _≤_}
 use native.Mathlib.Omega.{arith}
-use native.Mathlib.Numerals.{add-one}
-use lib.ListN.{length, getD, take}
+use lib.ListN.{length, take}
 use Rattle.std.specs.Finite.{nth}
 use Rattle.std.specs.Iters.{counting}
 use Rattle.std.specs.shelf.Lists.{kept-by}
@@ -14,7 +12,7 @@ use Rattle.std.proofs.shelf.Lists.{ext-getD, length-take-le, getD-take, length-
 use Rattle.std.proofs.shelf.Counted.{take-map-counting, map-counting-more}
 use Rattle.std.proofs.shelf.Ways.{decides-like, same-from-decides}
 use Rattle.runs.specs.Bits.{bit}
-use Rattle.runs.specs.Runs.{Pattern, lastSlot, Mark, Hit}
+use Rattle.runs.specs.Runs.{Pattern, lastSlot, Hit}
 use Rattle.runs.specs.Words.{mark, word, words, hits, trace}
 use Rattle.runs.proofs.Marked.{mark-decides}
 use Rattle.runs.proofs.Worded.{word-alike, bit-mark, length-words, getD-words}

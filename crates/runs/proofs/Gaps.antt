@@ -1,10 +1,8 @@
 -- Lists of gaps that are all 0 to 0.
 use mathlib.Core.Path.{_≡_, refl}
-use mathlib.Core.List.{List, [], _∷_}
 use Prim.Native.Nat.{ℕ, zero, suc, _≤_}
 use native.Mathlib.Omega.{arith}
 use lib.ListN.{replicate}
-use Rattle.runs.specs.declared.gap.Gap.{Gap}
 use Rattle.runs.specs.Gaps.{low, high, noGap}
 
 pub low-none : (n j : ℕ) → low (replicate n noGap) j ≡ 0

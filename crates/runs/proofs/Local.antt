@@ -1,14 +1,14 @@
 -- How far a run reaches, and how far a reading is felt.
-use mathlib.Core.Path.{_≡_, refl, sym, ap, subst, _∙_}
+use mathlib.Core.Path.{_≡_, refl, sym, ap, _∙_}
 use mathlib.Core.Logic.{_↔_, _≢_}
 use mathlib.Core.List.{List, [], _∷_}
-use Prim.Native.Nat.{ℕ, zero, suc, _+_, _-_, _<_, _≤_, max}
+use Prim.Native.Nat.{ℕ, zero, suc, _+_, _<_, _≤_}
 use native.Mathlib.Omega.{arith}
 use lib.ListN.{length}
 use Rattle.std.specs.Finite.{nth}
 use Rattle.runs.specs.declared.gap.Gap.{Gap}
 use Rattle.runs.specs.Gaps.{high, spans, reach, window}
-use Rattle.runs.specs.Runs.{Pattern, lastSlot, slots, place, fitsAt, among, Near, Run, Mark}
+use Rattle.runs.specs.Runs.{Pattern, lastSlot, slots, place, among, Near, Run, Mark}
 use Rattle.runs.specs.Laws.{Alike}
 use Rattle.runs.proofs.Steps.{at-none, at-top}
 

@@ -1,9 +1,9 @@
 -- The word of a place, from its reading and the words before it.
-use mathlib.Core.Path.{_≡_, refl, sym, ap, subst, _∙_}
+use mathlib.Core.Path.{_≡_, refl, sym, ap, _∙_}
 use mathlib.Core.Bool.{Bool, true, false, cond, _&&_}
 use mathlib.Core.Logic.{_↔_, _⊎_, inl, inr}
 use mathlib.Core.List.{List, reverse}
-use Prim.Native.Nat.{ℕ, zero, suc, _+_, _-_, _*_, _/_, _%_, _^_, _<_, _≤_}
+use Prim.Native.Nat.{ℕ, zero, suc, _+_, _-_, _/_, _%_, _^_, _<_, _≤_}
 use native.Mathlib.Omega.{arith}
 use native.Mathlib.Nat.{pow-succ', div-one}
 use lib.Pow.{pow-mono}
@@ -15,9 +15,8 @@ use Rattle.std.proofs.shelf.Lists.{getD-reverse, getD-past, getD-take, length-r
 use Rattle.std.proofs.shelf.Ways.{decides-like, decides-at, same-from-decides}
 use Rattle.runs.specs.Gaps.{low, high}
 use Rattle.runs.specs.Bits.{bit}
-use Rattle.runs.specs.Runs.{Pattern, lastSlot, slots, fitsAt, Mark}
+use Rattle.runs.specs.Runs.{Pattern, slots, fitsAt, Mark}
 use Rattle.runs.specs.Words.{some, bits, mark, word, words}
-use Rattle.runs.proofs.Marked.{mark-decides}
 use Rattle.runs.proofs.Worded.{halved, bits-same, bit-mark, bit-decides, bit-above, word-below, word-bits, length-words, getD-words}
 use Rattle.runs.proofs.Windowed.{back, mark-windowed, windowed}
 

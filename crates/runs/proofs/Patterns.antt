@@ -1,12 +1,11 @@
 -- The pattern of a signature has the signature's slots and gaps.
 use mathlib.Core.Path.{_≡_}
 use mathlib.Core.Bool.{Bool}
-use Prim.Native.Nat.{ℕ, suc, _-_, _<_, _≤_}
+use Prim.Native.Nat.{ℕ, _-_, _≤_}
 use native.Mathlib.Omega.{arith}
 use lib.ListN.{length}
-use Rattle.std.proofs.shelf.Lists.{length-take-le, getD-take}
+use Rattle.std.proofs.shelf.Lists.{length-take-le}
 use Rattle.runs.specs.declared.signature.Signature.{Signature}
-use Rattle.runs.specs.Gaps.{low, high, noGap}
 use Rattle.runs.specs.Signatures.{gapsOf, patternOf}
 use Rattle.runs.specs.Runs.{slots}
 

@@ -1,17 +1,16 @@
 -- The latest earlier place, as a program finds it: d counts the places between, from the gap's lowest size on.
-use mathlib.Core.Path.{_≡_, refl, sym, ap, subst, _∙_}
+use mathlib.Core.Path.{_≡_, subst}
 use mathlib.Core.Bool.{true, false}
 use mathlib.Core.Logic.{_⊎_, inl, inr}
 use mathlib.Core.List.{List}
 use Prim.Native.Nat.{ℕ, suc, _-_, _<_, _≤_}
 use native.Mathlib.Omega.{arith}
-use lib.ListN.{getD}
 use Rattle.std.proofs.shelf.Tests.{cases-lt, both-ways}
 use Rattle.runs.specs.Gaps.{low, high}
 use Rattle.runs.specs.Bits.{bit}
 use Rattle.runs.specs.Runs.{Pattern, slots, Near, Mark, Latest}
-use Rattle.runs.specs.Words.{word, words, before}
-use Rattle.runs.proofs.Worded.{bit-decides, getD-words}
+use Rattle.runs.specs.Words.{word, before}
+use Rattle.runs.proofs.Worded.{bit-decides}
 use Rattle.runs.proofs.Windowed.{windowed}
 use Rattle.runs.proofs.Traced.{before-is}
 

@@ -1,11 +1,11 @@
 -- The trace of a hit.
-use mathlib.Core.Path.{_≡_, refl, sym, ap, subst, _∙_}
+use mathlib.Core.Path.{_≡_, refl, sym, subst, _∙_}
 use mathlib.Core.Bool.{Bool, true, false, cond}
-use mathlib.Core.Logic.{_↔_, _⊎_, inl, inr, _≢_}
+use mathlib.Core.Logic.{_⊎_, inl, inr}
 use mathlib.Core.List.{List, [], _∷_, _++_}
-use Prim.Native.Nat.{ℕ, zero, suc, _+_, _-_, _<_, _≤_}
+use Prim.Native.Nat.{ℕ, zero, suc, _<_, _≤_}
 use native.Mathlib.Omega.{arith}
-use lib.ListN.{length, take, set}
+use lib.ListN.{length}
 use Rattle.std.specs.Finite.{nth}
 use Rattle.std.proofs.shelf.Tests.{cases-lt, cases-order, both-ways}
 use Rattle.std.proofs.shelf.Lists.{ext-getD}
@@ -13,7 +13,7 @@ use Rattle.runs.specs.Runs.{Pattern, lastSlot, slots, place, fitsAt, Near, Run
 use Rattle.runs.specs.Words.{last, before, traceTo, trace}
 use Rattle.runs.specs.Laws.{Traces, Final}
 use Rattle.runs.proofs.Steps.{at-top, at-low}
-use Rattle.runs.proofs.Marked.{push-long, push-front, push-end, front, mark-in, fits-from, mark-suc, mark-decides, earlier, earlier-decides}
+use Rattle.runs.proofs.Marked.{push-long, push-front, push-end, mark-in, fits-from, mark-suc, mark-decides, earlier, earlier-decides}
 use Rattle.runs.proofs.Local.{alike-below, within-run}
 
 abbrev Last : (ℕ → Bool) → ℕ → ℕ → Type 0

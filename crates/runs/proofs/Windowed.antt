@@ -1,15 +1,15 @@
 -- The recurrence over the places of a gap, counted back from p, as a program loops.
-use mathlib.Core.Path.{_≡_, refl, sym, subst}
-use mathlib.Core.Bool.{Bool, true, false, _&&_}
+use mathlib.Core.Path.{_≡_, refl, subst}
+use mathlib.Core.Bool.{Bool, true, _&&_}
 use mathlib.Core.Logic.{_↔_}
 use mathlib.Core.List.{List}
-use Prim.Native.Nat.{ℕ, zero, suc, _+_, _-_, _<_, _≤_}
+use Prim.Native.Nat.{ℕ, suc, _-_, _<_, _≤_}
 use native.Mathlib.Omega.{arith}
 use lib.Dec.{ltb, leb}
 use Rattle.std.specs.Orderings.{Decides}
 use Rattle.std.proofs.shelf.Ways.{decides-and, decides-like, decides-below-or, decides-ltb, same-from-decides}
 use Rattle.runs.specs.Gaps.{low, high}
-use Rattle.runs.specs.Runs.{Pattern, fitsAt, Near, Mark}
+use Rattle.runs.specs.Runs.{Pattern, fitsAt, Mark}
 use Rattle.runs.specs.Words.{some, mark}
 use Rattle.runs.proofs.Marked.{mark-suc, mark-decides, decides-leb}
 

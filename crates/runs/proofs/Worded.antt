@@ -19,7 +19,7 @@ use Rattle.std.proofs.shelf.Lists.{getD-past}
 use Rattle.std.proofs.shelf.Counted.{length-map-counting, getD-map-counting}
 use Rattle.std.proofs.shelf.Ways.{decides-at, decides-like, same-from-decides}
 use Rattle.runs.specs.Bits.{bit}
-use Rattle.runs.specs.Runs.{Pattern, lastSlot, slots, Mark}
+use Rattle.runs.specs.Runs.{Pattern, slots, Mark}
 use Rattle.runs.specs.Words.{bits, word, words, mark}
 use Rattle.runs.specs.Laws.{Alike, Told}
 use Rattle.runs.proofs.Marked.{mark-decides}

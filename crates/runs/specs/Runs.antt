@@ -25,7 +25,7 @@ abbrev pub place : List ℕ → ℕ → ℕ
 place ps h = getD ps h 0
 
 module _ {R : Type 0} (P : Pattern R) where
-  -- the number of the last slot: as many gaps as there are, and one slot more
+  -- the last slot, and how many slots there are: one more than gaps
   abbrev pub lastSlot : ℕ
   lastSlot = length (P .gaps)
 

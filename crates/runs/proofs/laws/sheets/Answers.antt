@@ -5,13 +5,13 @@ use Rattle.runs.proofs.laws.sheets.Needs as need
 pub returns : need.returns
 unfolding mark word before trace reworked
 returns c = record {
-  first = (refl, refl, refl);
-  lost = refl;
-  idle = refl;
-  kept = (refl, refl);
-  older = (refl, refl);
+  six-words = (refl, refl, refl);
+  amended-first = refl;
+  amended-idle = refl;
+  end-kept = (refl, refl);
+  older-end = (refl, refl);
   too-near = refl;
   too-far = (refl, refl);
-  both = refl;
+  both-slots = refl;
   currents = refl;
 }
