@@ -1,0 +1,3 @@
+//! Searching a list of readings for every hit, and tracing a hit back.
+pub mod opening;
+pub mod searching;
