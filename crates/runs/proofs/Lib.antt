@@ -4,6 +4,7 @@ pub mod Nth
 pub mod Marked
 pub mod Worded
 pub mod Local
+pub mod Places
 pub mod Traced
 pub mod Listed
 pub mod Stopped
@@ -12,5 +13,4 @@ pub mod Windowed
 pub mod Next
 pub mod Repaired
 pub mod Below
-pub mod Scanned
 pub mod Patterns

@@ -86,18 +86,18 @@ module _ {R : Type 0} (P : Pattern R) (xs : List R) where
   pub mark-suc : (j p : ℕ) → Mark P xs (suc j) p ↔ ((fitsAt P xs (suc j) p ≡ true) × ((q : ℕ) × Near P j q p × Mark P xs j q))
   mark-suc j p = (λ m. (fits-from m, mark-to j p m), λ (f, (q, n, m)). mark-from j p q f n m)
 
-  pub near-decides : (h q p : ℕ) → Decides (near P h q p) (Near P h q p)
+  pub near-decides : (h q p : ℕ) → Decides (near (P .gaps) h q p) (Near P h q p)
   near-decides h q p =
       let lo = low (P .gaps) h in
-      decides-like (near P h q p) (λ x. (x .0, x .1 .0, x .1 .1)) (λ x. (x .0, (x .1, x .2)))
+      decides-like (near (P .gaps) h q p) (λ x. (x .0, x .1 .0, x .1 .1)) (λ x. (x .0, (x .1, x .2)))
       (decides-and (ltb q p) _ (decides-ltb q p) (decides-and (leb lo (p - suc q)) _ (decides-leb lo (p - suc q)) (decides-leb (p - suc q) (high (P .gaps) h))))
 
   -- the test of an earlier place
   abbrev pub earlier : ℕ → ℕ → ℕ → Bool
-  earlier j p q = near P j q p && mark P xs j q
+  earlier j p q = near (P .gaps) j q p && mark P xs j q
 
   pub earlier-decides : (j p q : ℕ) → Decides (mark P xs j q) (Mark P xs j q) → Decides (earlier j p q) (Near P j q p × Mark P xs j q)
-  earlier-decides j p q d = decides-and (near P j q p) (mark P xs j q) (near-decides j q p) d
+  earlier-decides j p q d = decides-and (near (P .gaps) j q p) (mark P xs j q) (near-decides j q p) d
 
   pub mark-decides : (j p : ℕ) → Decides (mark P xs j p) (Mark P xs j p)
   unfolding mark

@@ -10,25 +10,12 @@ use Rattle.std.specs.Finite.{nth}
 use Rattle.std.proofs.shelf.Tests.{cases-lt, cases-order, both-ways}
 use Rattle.std.proofs.shelf.Lists.{ext-getD}
 use Rattle.runs.specs.Runs.{Pattern, lastSlot, slots, place, fitsAt, Near, Run, Mark, Hit, Latest, Trace, Earlier}
-use Rattle.runs.specs.Words.{last, before, traceTo, trace}
+use Rattle.runs.specs.Words.{mark, before, traceTo, trace}
 use Rattle.runs.specs.Laws.{Traces, Final}
 use Rattle.runs.proofs.Steps.{at-top, at-low}
 use Rattle.runs.proofs.Marked.{push-long, push-front, push-end, mark-in, fits-from, mark-suc, mark-decides, earlier, earlier-decides}
+use Rattle.runs.proofs.Places.{last-is, trace-long, trace-end}
 use Rattle.runs.proofs.Local.{alike-below, within-run}
-
-abbrev Last : (ℕ → Bool) → ℕ → ℕ → Type 0
-Last f n q = (f q ≡ true) × ((i : ℕ) → i < n → f i ≡ true → i ≤ q)
-
-last-is : (f : ℕ → Bool) (n k : ℕ) → k < n → f k ≡ true → Last f n (last f n)
-last-is f zero k l t = absurd (omega arith)
-last-is f (suc n) k l t = go (f n) refl (λ h. last-is f n k h t)
-  where
-    go : (b : Bool) → f n ≡ b → (k < n → Last f n (last f n)) → Last f (suc n) (cond b n (last f n))
-    go true e ih = (e, λ i x y. omega arith)
-    go false e ih =
-        let below = λ (i : ℕ) (h : i < suc n) (y : f i ≡ true). at-top n i h (λ x. f x ≡ true → i < n) (λ a _. a) (λ z. absurd (both-ways (f n) e z)) y in
-        let x = ih (below k l t) in
-        (x .0, λ i h y. x .1 i (below i h y) y)
 
 not-both : (j : ℕ) (a b : List ℕ) (h i : ℕ) → Earlier j a b h → Earlier j b a i → ⊥
 not-both j a b h i x y = go (cases-order h i)
@@ -40,46 +27,38 @@ not-both j a b h i x y = go (cases-order h i)
 
 module _ {R : Type 0} (P : Pattern R) (xs : List R) where
   -- where there is an earlier place, `before` is the latest
-  pub latest-is : (j p q : ℕ) → Near P j q p → Mark P xs j q → Latest P xs j p (before P xs j p)
+  pub latest-is : (j p q : ℕ) → Near P j q p → Mark P xs j q → Latest P xs j p (before (P .gaps) (mark P xs) j p)
   unfolding before
   latest-is j p q n k =
       let d = λ (i : ℕ). earlier-decides P xs j p i (mark-decides P xs j i) in
       let y = last-is (earlier P xs j p) p q (n .0) (d q .1 (n, k)) in
-      let z = d (before P xs j p) .0 (y .0) in
+      let z = d (before (P .gaps) (mark P xs) j p) .0 (y .0) in
       record { near = z .0; marked = z .1; latest = λ i b w. y .1 i (b .0) (d i .1 (b, w)) }
 
-  pub latest-before : (j p : ℕ) → Mark P xs (suc j) p → Latest P xs j p (before P xs j p)
+  pub latest-before : (j p : ℕ) → Mark P xs (suc j) p → Latest P xs j p (before (P .gaps) (mark P xs) j p)
   latest-before j p m = let (f, (q, n, k)) = mark-suc P xs j p .0 m in latest-is j p q n k
 
   -- there is one latest place
   pub latest-only : (j p q k : ℕ) → Latest P xs j p q → Latest P xs j p k → q ≡ k
   latest-only j p q k a b = omega (arith, a .latest k (b .near) (b .marked), b .latest q (a .near) (a .marked))
 
-  pub before-is : (j p q : ℕ) → Latest P xs j p q → before P xs j p ≡ q
-  before-is j p q a = latest-only j p (before P xs j p) q (latest-is j p q (a .near) (a .marked)) a
+  pub before-is : (j p q : ℕ) → Latest P xs j p q → before (P .gaps) (mark P xs) j p ≡ q
+  before-is j p q a = latest-only j p (before (P .gaps) (mark P xs) j p) q (latest-is j p q (a .near) (a .marked)) a
 
-  trace-long : (j p : ℕ) → length (traceTo P xs j p) ≡ suc j
-  trace-long zero p = refl
-  trace-long (suc j) p = let q = before P xs j p in push-long (traceTo P xs j q) p (suc j) (trace-long j q)
-
-  trace-end : (j p : ℕ) → place (traceTo P xs j p) j ≡ p
-  trace-end zero p = refl
-  trace-end (suc j) p = let q = before P xs j p in push-end (traceTo P xs j q) p (suc j) (trace-long j q)
-
-  trace-back : (j p : ℕ) → Mark P xs j p → (h : ℕ) → h < j → Latest P xs h (place (traceTo P xs j p) (suc h)) (place (traceTo P xs j p) h)
+  trace-back : (j p : ℕ) → Mark P xs j p → (h : ℕ) → h < j → Latest P xs h (place (traceTo (P .gaps) (mark P xs) j p) (suc h)) (place (traceTo (P .gaps) (mark P xs) j p) h)
   trace-back zero p m h l = absurd (omega arith)
   trace-back (suc j) p m h l =
-      let q = before P xs j p in
-      let ps = traceTo P xs j q in
-      let low = push-front ps p (suc j) (trace-long j q) in
+      let q = before (P .gaps) (mark P xs) j p in
+      let ps = traceTo (P .gaps) (mark P xs) j q in
+      let low = push-front ps p (suc j) (trace-long (P .gaps) (mark P xs) j q) in
       let new = latest-before j p m in
       at-top j h l (λ x. Latest P xs x (place (ps ++ p ∷ []) (suc x)) (place (ps ++ p ∷ []) x))
       (λ k. rw (low h (omega arith), low (suc h) (omega arith)) (trace-back j q (new .marked) h k))
-      (rw (push-end ps p (suc j) (trace-long j q), low j (omega arith), trace-end j q) new)
+      (rw (push-end ps p (suc j) (trace-long (P .gaps) (mark P xs) j q), low j (omega arith), trace-end (P .gaps) (mark P xs) j q) new)
 
   pub trace-is : (p : ℕ) → Hit P xs p → Trace P xs p (trace P xs p)
   unfolding trace
-  trace-is p m = record { hit = m; long = trace-long (lastSlot P) p; end = trace-end (lastSlot P) p; back = trace-back (lastSlot P) p m }
+  trace-is p m = record { hit = m; long = trace-long (P .gaps) (mark P xs) (lastSlot P) p; end = trace-end (P .gaps) (mark P xs) (lastSlot P) p; back = trace-back (lastSlot P) p m }
 
   pub trace-run : (p : ℕ) (ps : List ℕ) → Trace P xs p ps → Run P xs (slots P) ps
   trace-run p ps t = record {

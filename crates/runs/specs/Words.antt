@@ -7,6 +7,7 @@ use lib.Dec.{ltb, leb, eqb}
 use lib.ListN.{length, getD}
 use Rattle.std.specs.Iters.{counting}
 use Rattle.std.specs.shelf.Lists.{kept-by, leading}
+use Rattle.runs.specs.declared.gap.Gap.{Gap}
 use Rattle.runs.specs.Gaps.{low, high}
 use Rattle.runs.specs.Runs.{Pattern, lastSlot, slots, fitsAt}
 
@@ -29,15 +30,24 @@ abbrev pub bits : (ℕ → Bool) → ℕ → ℕ
 bits test zero = 0
 bits test (suc n) = cond (test 0) 1 0 + 2 * bits (λ j. test (suc j)) n
 
-module _ {R : Type 0} (P : Pattern R) where
-  -- whether q and p are `Near` by gap h
-  abbrev pub near : ℕ → ℕ → ℕ → Bool
-  near h q p = ltb q p && (leb (low (P .gaps) h) (p - suc q) && leb (p - suc q) (high (P .gaps) h))
+-- whether q comes before p, with as many places strictly between as gap h allows
+abbrev pub near : List Gap → ℕ → ℕ → ℕ → Bool
+near gs h q p = ltb q p && (leb (low gs h) (p - suc q) && leb (p - suc q) (high gs h))
 
+-- the latest place before p, within gap j, that bears mark j, where `marks j q` says whether place q does
+unfoldable pub before : List Gap → (ℕ → ℕ → Bool) → ℕ → ℕ → ℕ
+before gs marks j p = last (λ q. near gs j q p && marks j q) p
+
+-- the places of the slots 0 .. j, back from p
+abbrev pub traceTo : List Gap → (ℕ → ℕ → Bool) → ℕ → ℕ → List ℕ
+traceTo gs marks zero p = p ∷ []
+traceTo gs marks (suc j) p = traceTo gs marks j (before gs marks j p) ++ (p ∷ [])
+
+module _ {R : Type 0} (P : Pattern R) where
   -- whether place p bears mark j
   unfoldable pub mark : List R → ℕ → ℕ → Bool
   mark xs zero p = fitsAt P xs 0 p
-  mark xs (suc j) p = fitsAt P xs (suc j) p && some (λ q. near j q p && mark xs j q) p
+  mark xs (suc j) p = fitsAt P xs (suc j) p && some (λ q. near (P .gaps) j q p && mark xs j q) p
 
   -- the mark word of place p: bit j says whether it bears mark j, and there are no further bits
   unfoldable pub word : List R → ℕ → ℕ
@@ -50,17 +60,9 @@ module _ {R : Type 0} (P : Pattern R) where
   abbrev pub hits : List R → List ℕ
   hits xs = kept-by (mark xs (lastSlot P)) (counting 0 (length xs))
 
-  -- the latest place before p, within gap j, that bears mark j
-  unfoldable pub before : List R → ℕ → ℕ → ℕ
-  before xs j p = last (λ q. near j q p && mark xs j q) p
-
-  -- the places of the slots 0 .. j, back from p; and of all slots
-  abbrev pub traceTo : List R → ℕ → ℕ → List ℕ
-  traceTo xs zero p = p ∷ []
-  traceTo xs (suc j) p = traceTo xs j (before xs j p) ++ (p ∷ [])
-
+  -- the trace of the hit at p
   unfoldable pub trace : List R → ℕ → List ℕ
-  trace xs p = traceTo xs (lastSlot P) p
+  trace xs p = traceTo (P .gaps) (mark xs) (lastSlot P) p
 
 -- With window w, after a change at place p: each place from max(p, q - w + 1) up to q bears its former word. Then q is settled.
 abbrev pub Settled : ℕ → ℕ → List ℕ → List ℕ → ℕ → Type 0
