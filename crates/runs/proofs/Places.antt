@@ -116,6 +116,16 @@ module _ (gs : List Gap) (marks : ℕ → ℕ → Bool) where
       (λ k. rw (front h (omega arith), front (suc h) (omega arith)) (trace-step j q h k))
       (rw (push-end ps p (suc j) (trace-long j q), front j (omega arith)) (trace-end j q))
 
+  -- no place of a trace lies past its end
+  pub trace-below : (j p h : ℕ) → h ≤ j → place (traceTo gs marks j p) h ≤ p
+  trace-below zero p h l = let is : 0 ≡ h = omega arith in subst (λ x. place (p ∷ []) x ≤ p) is (omega arith)
+  trace-below (suc j) p h l =
+      let q = before gs marks j p in
+      let ps = traceTo gs marks j q in
+      at-top (suc j) h (omega arith) (λ x. place (ps ++ p ∷ []) x ≤ p)
+      (λ k. rw (push-front ps p (suc j) (trace-long j q) h (omega arith)) (omega (arith, trace-below j q h (omega arith), before-below j p)))
+      (rw (push-end ps p (suc j) (trace-long j q)) (omega arith))
+
 -- marks that agree before p give the same trace back from p
 before-same : (gs : List Gap) (f g : ℕ → ℕ → Bool) (j p : ℕ) → ((q : ℕ) → q < p → f j q ≡ g j q) → before gs f j p ≡ before gs g j p
 unfolding before

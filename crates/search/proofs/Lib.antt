@@ -1,1 +1,3 @@
 pub mod Searched
+pub mod Filled
+pub mod Back

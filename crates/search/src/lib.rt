@@ -1,3 +1,5 @@
 //! Searching a list of readings for every hit, and tracing a hit back.
 pub mod opening;
 pub mod searching;
+mod sheet;
+pub mod tracing;

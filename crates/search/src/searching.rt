@@ -1,11 +1,11 @@
 //! The search: the mark word of every place, and the number of hits.
 ghost use mathlib.Core.Path.{_≡_};
-ghost use Prim.Native.Nat.{ℕ, _-_, _<_, _≤_};
 ghost use lib.ListN.{length};
 ghost use Rattle.runs.specs.Signatures.{patternOf};
 ghost use Rattle.search.specs.Openings.{opening};
-ghost use Rattle.search.specs.Sheets.{Fitted, bearing, found, sheetAfter};
+ghost use Rattle.search.specs.Sheets.{Fitted, found, sheetAfter};
 use crate::opening::check_opening;
+use crate::sheet::count_marked;
 use engines::engine::Engine;
 use runs::signature::Signature;
 use signature::gauge::Gauge;
@@ -19,20 +19,6 @@ fn try_all<G: Gauge>(gauge: &G, readings: &[G::Reading], sheet: &mut [u32])
     for (place, reading) in readings.iter().enumerate() {
         sheet[place] = gauge.try_reading(reading);
     }
-}
-
-// How many words of a sheet bear the mark of a slot.
-fn count_marked(sheet: &[u32], slot: u32) -> usize
-    requires { ⌜ slot < 32 ⌝ }
-    ensures { λ r. ⌜ r ≡ bearing slot (now (sheet .entry)) ⌝ }
-{
-    let mut count = 0;
-    for word in sheet {
-        if (*word >> slot) & 1 == 1 {
-            count += 1;
-        }
-    }
-    count
 }
 
 /// Writes the mark word of each place into the sheet and answers the number of hits, with an engine of its own.

@@ -8,7 +8,7 @@ use Rattle.std.specs.declared.result.Result.the-variants.{Ok, Err}
 use Rattle.text.specs.declared.refusal.Layer.{Layer}
 use Rattle.text.specs.declared.refusal.Layer.the-variants.{Number, Slot, Signature, Record, File}
 use Rattle.text.specs.declared.refusal.Refusal.{Refusal}
-use Rattle.text.specs.declared.refusal.Refusal.the-variants.{LongText, NoDigit, OutOfRange, NoMark, Backward, ExtraSlot, StrayGap, Buffers, NoSlots, FarReach, FileSize, FileParts}
+use Rattle.text.specs.declared.refusal.Refusal.the-variants.{LongText, NoDigit, OutOfRange, NoMark, Backward, ExtraSlot, StrayGap, Buffers, NoSlots, FarReach, NoPlace, NoHit, ShortList, FileSize, FileParts}
 
 abbrev pub numberOf : Refusal → ℕ
 numberOf LongText = 1
@@ -21,6 +21,9 @@ numberOf (StrayGap p) = 7
 numberOf Buffers = 8
 numberOf NoSlots = 9
 numberOf FarReach = 10
+numberOf (NoPlace p) = 12
+numberOf (NoHit p) = 16
+numberOf (ShortList p) = 17
 numberOf (FileSize n) = 19
 numberOf (FileParts n) = 20
 
@@ -35,6 +38,9 @@ layerOf (StrayGap p) = Signature
 layerOf Buffers = Record
 layerOf NoSlots = Record
 layerOf FarReach = Record
+layerOf (NoPlace p) = Record
+layerOf (NoHit p) = Record
+layerOf (ShortList p) = Record
 layerOf (FileSize n) = File
 layerOf (FileParts n) = File
 
@@ -49,6 +55,9 @@ placeOf (StrayGap p) = p
 placeOf Buffers = 0
 placeOf NoSlots = 0
 placeOf FarReach = 0
+placeOf (NoPlace p) = p
+placeOf (NoHit p) = p
+placeOf (ShortList p) = p
 placeOf (FileSize n) = n
 placeOf (FileParts n) = n
 

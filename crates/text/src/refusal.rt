@@ -52,6 +52,12 @@ pub enum Refusal {
     NoSlots,
     /// The signature reaches farther than the engine takes.
     FarReach,
+    /// No reading stands at the place.
+    NoPlace { place: usize },
+    /// No hit ends at the place.
+    NoHit { place: usize },
+    /// The list for the trace of the hit at the place has fewer entries than there are slots.
+    ShortList { place: usize },
     /// A file of fewer than 8 or more than 16,384 bytes.
     FileSize { bytes: usize },
     /// A file whose length is not what its header says.
@@ -74,6 +80,9 @@ impl Refusal {
             Refusal::Buffers => 8,
             Refusal::NoSlots => 9,
             Refusal::FarReach => 10,
+            Refusal::NoPlace { .. } => 12,
+            Refusal::NoHit { .. } => 16,
+            Refusal::ShortList { .. } => 17,
             Refusal::FileSize { .. } => 19,
             Refusal::FileParts { .. } => 20,
         }
@@ -90,6 +99,8 @@ impl Refusal {
             Refusal::Backward { layer, .. } => layer,
             Refusal::ExtraSlot { layer, .. } => layer,
             Refusal::Buffers | Refusal::NoSlots | Refusal::FarReach => Layer::Record,
+            Refusal::NoPlace { .. } | Refusal::NoHit { .. } | Refusal::ShortList { .. } =>
+                Layer::Record,
             Refusal::FileSize { .. } | Refusal::FileParts { .. } => Layer::File,
         }
     }
@@ -107,6 +118,9 @@ impl Refusal {
             Refusal::ExtraSlot { place, .. } => place,
             Refusal::StrayGap { place } => place,
             Refusal::Buffers | Refusal::NoSlots | Refusal::FarReach => 0,
+            Refusal::NoPlace { place } => place,
+            Refusal::NoHit { place } => place,
+            Refusal::ShortList { place } => place,
             Refusal::FileSize { bytes } => bytes,
             Refusal::FileParts { bytes } => bytes,
         }
