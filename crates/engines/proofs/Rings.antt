@@ -1,6 +1,6 @@
 -- The ring of the last 64 words.
 use mathlib.Core.Path.{_≡_, refl, sym, ap, subst, _∙_}
-use mathlib.Core.Bool.{Bool, true, false}
+use mathlib.Core.Bool.{false}
 use mathlib.Core.List.{List, reverse}
 use mathlib.Core.Logic.{_≢_, ⊎-elim}
 use Prim.Native.Nat.{ℕ, suc, _+_, _-_, _/_, _%_, _^_, _<_, _≤_}
@@ -10,12 +10,10 @@ use lib.Bits.{bitAnd}
 use lib.ListN.{length, getD, set, replicate, length-set}
 use lib.Seq.{getD-set-same, getD-set-other}
 use Rattle.std.proofs.shelf.Lists.{getD-reverse, getD-past, length-reverse}
-use Rattle.std.proofs.shelf.Tests.{cases-lt, both-ways}
+use Rattle.std.proofs.shelf.Tests.{cases-lt}
 use Rattle.runs.specs.declared.signature.Signature.{Signature}
-use Rattle.runs.specs.Gaps.{low, high}
-use Rattle.runs.specs.Signatures.{gapsOf}
 use Rattle.runs.specs.Bits.{bit}
-use Rattle.engines.specs.Memory.{Moved, Recalls, Seen}
+use Rattle.engines.specs.Memory.{Moved, Recalls}
 use Rattle.engines.specs.Rings.{ago, pastSays}
 use Rattle.engines.proofs.Bits.{bit-zero, bit-off}
 use Rattle.engines.proofs.Laid.{all-same}

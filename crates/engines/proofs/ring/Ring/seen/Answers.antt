@@ -1,11 +1,7 @@
-use mathlib.Core.Path.{_≡_, refl, ap}
-use mathlib.Core.Bool.{true, false}
-use Prim.Native.Nat.{ℕ, _<_, _≤_}
+use mathlib.Core.Path.{refl, ap}
 use native.Mathlib.Omega.{arith}
 use Rattle.std.proofs.shelf.Tests.{both-ways, false≢true}
 use Rattle.runs.specs.declared.gap.Gap.{Gap}
-use Rattle.runs.specs.Gaps.{low, high}
-use Rattle.runs.specs.Signatures.{gapsOf}
 use Rattle.engines.proofs.Bits.{bit-on}
 use Rattle.engines.proofs.Rings.{none-more}
 use Rattle.engines.proofs.Signatures.{gap-narrow}

@@ -1,8 +1,8 @@
 use mathlib.Core.Path.{_≡_, refl, subst}
 use mathlib.Core.List.{List}
-use Prim.Native.Nat.{ℕ, _-_, _%_, _<_, _≤_}
+use Prim.Native.Nat.{ℕ, _-_, _%_, _≤_}
 use native.Mathlib.Omega.{arith}
-use lib.ListN.{length, take, drop, length-take, length-drop}
+use lib.ListN.{length, take, drop, length-drop}
 use Rattle.std.proofs.shelf.Lists.{take-rest}
 use Rattle.engines.proofs.Recalled.{recalls-recent}
 use Rattle.engines.specs.Memory.{Recalls}
