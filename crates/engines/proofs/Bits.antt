@@ -1,15 +1,15 @@
 -- Single bits of numbers.
-use mathlib.Core.Path.{_≡_, refl, sym, ap, subst, _∙_}
-use mathlib.Core.Bool.{Bool, true, false}
+use mathlib.Core.Path.{_≡_, sym, ap, subst, _∙_}
+use mathlib.Core.Bool.{true, false}
 use mathlib.Core.Logic.{_≢_, ⊎-elim}
 use Prim.Native.Nat.{ℕ, zero, suc, min, max, _+_, _-_, _*_, _/_, _%_, _^_, _<_, _≤_}
 use native.Mathlib.Omega.{arith}
-use native.Mathlib.Nat.{one-mul, mul-comm, mul-assoc, div-eq-of-lt, mod-one}
+use native.Mathlib.Nat.{one-mul, mul-assoc, div-eq-of-lt, mod-one}
 use lib.Bits.{bitAnd, bitOr, and-step, and-shr, or-step, or-shr}
 use lib.Dec.{eqb}
 use lib.Pow.{pow-add, pow-pos, pow-lt, pow-mono, shl-shr, shr-shr, mod-pow-add, field, mod-mod-pow}
 use Rattle.std.proofs.shelf.Bits.{and-mask, one-shl, mod-below}
-use Rattle.std.proofs.shelf.Tests.{cases-lt, cases-eq, eqb-true, eqb-false, eq-eqb, ne-eqb, both-ways}
+use Rattle.std.proofs.shelf.Tests.{cases-lt, cases-eq, eqb-true, eqb-false, eq-eqb, ne-eqb}
 use Rattle.runs.specs.Bits.{bit}
 
 -- the bit as a number

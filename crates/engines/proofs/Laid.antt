@@ -2,7 +2,7 @@
 use mathlib.Core.Path.{_≡_, refl, ap, _∙_}
 use mathlib.Core.List.{List}
 use mathlib.Core.Logic.{_≢_}
-use Prim.Native.Nat.{ℕ, zero, suc, _+_, _-_, _*_, _%_, _^_, _<_, _≤_}
+use Prim.Native.Nat.{ℕ, zero, suc, _+_, _-_, _*_, _%_, _^_, _<_}
 use native.Mathlib.Omega.{arith}
 use native.Mathlib.Numerals.{add-one}
 use lib.Bits.{bitOr}
@@ -11,7 +11,7 @@ use lib.Seq.{getD-set-same, getD-set-other}
 use borrow.Author.Count.{below-more}
 use Rattle.std.proofs.shelf.Bits.{one-shl}
 use Rattle.runs.specs.declared.gap.Gap.{Gap}
-use Rattle.runs.specs.Gaps.{low, high, spans}
+use Rattle.runs.specs.Gaps.{low, high}
 use Rattle.engines.specs.Blocks.{block}
 use Rattle.engines.specs.Fields.{offset, kept, Begun, Idle, Opened}
 

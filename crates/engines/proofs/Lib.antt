@@ -8,3 +8,4 @@ pub mod Recalled
 pub mod Fields
 pub mod Laid
 pub mod Masked
+pub mod Rings

@@ -1,13 +1,12 @@
 -- The lowest bit of a number, as `trailing_zeros` gives it and `n & (n - 1)` takes it away.
-use mathlib.Core.Path.{_≡_, refl, sym, ap, subst, _∙_}
-use mathlib.Core.Bool.{Bool, true, false}
+use mathlib.Core.Path.{_≡_, sym, ap, subst, _∙_}
+use mathlib.Core.Bool.{true, false}
 use mathlib.Core.Logic.{_≢_, ⊎-elim}
 use Prim.Native.Nat.{ℕ, zero, suc, min, _+_, _-_, _*_, _/_, _%_, _^_, _<_, _≤_}
 use native.Mathlib.Omega.{arith}
 use native.Mathlib.Nat.{add-mul, mod-eq-of-lt, mod-one}
 use lib.Bits.{bitAnd, and-block, and-step, and-self, and-zero-l}
 use lib.Count.{trailingZeros, under}
-use lib.Dec.{eqb}
 use lib.Pow.{pow-pos, mod-pow-add, split, ones-lt}
 use Rattle.std.proofs.shelf.Tests.{cases-lt, cases-eq, eqb-true, eq-eqb}
 use Rattle.runs.specs.Bits.{bit}

@@ -1,9 +1,9 @@
 -- Masks: the test of a window, and a shift by one place.
 use mathlib.Core.Path.{_≡_, refl, sym, ap, subst, _∙_}
-use mathlib.Core.Bool.{Bool, true, false, not}
+use mathlib.Core.Bool.{false, not}
 use mathlib.Core.List.{List}
-use mathlib.Core.Logic.{_≢_, ⊎-elim}
-use Prim.Native.Nat.{ℕ, zero, suc, _+_, _-_, _*_, _/_, _%_, _^_, _<_, _≤_}
+use mathlib.Core.Logic.{_≢_}
+use Prim.Native.Nat.{ℕ, suc, _+_, _-_, _*_, _/_, _%_, _^_, _<_, _≤_}
 use native.Mathlib.Omega.{arith}
 use lib.Bits.{bitAnd, bitOr, and-le-r}
 use lib.Dec.{eqb}
@@ -11,7 +11,6 @@ use lib.ListN.{length, getD, set, replicate, length-set}
 use lib.Seq.{getD-set-same, getD-set-other}
 use borrow.Author.Count.{below-more}
 use Rattle.std.proofs.shelf.Bits.{and-mask}
-use Rattle.std.proofs.shelf.Tests.{cases-lt}
 use Rattle.std.specs.Orderings.{Decides}
 use Rattle.runs.specs.declared.signature.Signature.{Signature}
 use Rattle.runs.specs.Gaps.{low, high}

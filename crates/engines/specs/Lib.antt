@@ -2,3 +2,4 @@ pub mod Memory
 pub mod Blocks
 pub mod Fields
 pub mod Masked
+pub mod Rings

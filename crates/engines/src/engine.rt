@@ -1,9 +1,8 @@
 //! What every engine does, whatever it keeps its memory in.
 ghost use mathlib.Core.Path.{_≡_};
 ghost use mathlib.Core.Bool.{Bool};
-ghost use mathlib.Core.List.{List, []};
+ghost use mathlib.Core.List.{[]};
 ghost use Prim.Native.Nat.{ℕ, _≤_};
-ghost use Rattle.runs.specs.declared.gap.Gap.{Gap};
 ghost use Rattle.runs.specs.declared.signature.Signature.{Signature};
 ghost use Rattle.runs.specs.Gaps.{reach};
 ghost use Rattle.runs.specs.Signatures.{gapsOf};
@@ -26,6 +25,7 @@ pub trait Engine: Sized {
     // It means something for each slot j but the last, and for d up to the highest size of gap j
     ghost says: { Self → ℕ → ℕ → Bool };
 
+    /// The limit, as a function.
     fn greatest() -> u32
         ensures { λ r. ⌜ r ≡ limit ⌝ };
 

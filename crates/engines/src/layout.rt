@@ -1,6 +1,6 @@
 //! Where one word keeps what is remembered for each gap of a signature.
 ghost use mathlib.Core.Path.{_≡_};
-ghost use Prim.Native.Nat.{ℕ, _+_, _-_, _≤_};
+ghost use Prim.Native.Nat.{_+_, _-_, _≤_};
 ghost use Rattle.runs.specs.Gaps.{reach};
 ghost use Rattle.runs.specs.Signatures.{gapsOf};
 ghost use Rattle.engines.specs.Blocks.{block};

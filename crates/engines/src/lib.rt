@@ -3,6 +3,7 @@ pub mod engine;
 mod layout;
 pub mod mask;
 mod ones;
+pub mod ring;
 mod shape;
 mod windows;
 pub mod word;

@@ -24,10 +24,10 @@ impl Masks {
         ensures shape { λ r. ⌜ Blank (r .windows .signature) ⌝ }
         ensures memory { λ r. ⌜ ((j d : ℕ) → masksSay (r .masks) j d ≡ false) ⌝ }
     {
-        let windows = Windows::new(&Signature::new());
+        let masks = [0; 31];
         Masks {
-            windows,
-            masks: [0; 31],
+            windows: Windows::new(&Signature::new()),
+            masks,
         }
     }
 

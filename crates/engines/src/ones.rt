@@ -1,6 +1,6 @@
 //! Blocks of ones.
 ghost use mathlib.Core.Path.{_≡_};
-ghost use Prim.Native.Nat.{ℕ, _+_, _≤_};
+ghost use Prim.Native.Nat.{_+_, _≤_};
 ghost use Rattle.engines.specs.Blocks.{block};
 
 /// The word with `count` ones, at the places from `from` on.

@@ -1,6 +1,6 @@
 //! What engines read off a signature.
 ghost use mathlib.Core.Path.{_≡_};
-ghost use Prim.Native.Nat.{ℕ, _-_};
+ghost use Prim.Native.Nat.{_-_};
 ghost use Rattle.engines.specs.Blocks.{block};
 ghost use Rattle.engines.specs.Memory.{gapAt};
 use crate::ones::ones;

@@ -1,6 +1,6 @@
 //! For each gap of a signature the distances that it allows.
 ghost use mathlib.Core.Path.{_≡_};
-ghost use Prim.Native.Nat.{ℕ, _-_};
+ghost use Prim.Native.Nat.{_-_};
 ghost use Rattle.runs.specs.Signatures.{gapsOf};
 ghost use Rattle.engines.specs.Blocks.{block};
 ghost use Rattle.engines.specs.Masked.{Allows};

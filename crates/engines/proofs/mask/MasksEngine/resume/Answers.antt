@@ -1,4 +1,4 @@
-use mathlib.Core.Path.{_≡_, refl, ap, _∙_}
+use mathlib.Core.Path.{refl, ap, _∙_}
 use Rattle.engines.specs.declared.windows.Windows.{Windows}
 use Rattle.engines.proofs.Masked.{masks-blank}
 use Rattle.engines.proofs.Recalled.{recalls-none, recalls-more, recalls-all, moved-shape}

@@ -1,35 +1,18 @@
-use mathlib.Core.Path.{_≡_, refl, sym, ap, subst, _∙_}
+use mathlib.Core.Path.{_≡_, refl, ap, subst, _∙_}
 use mathlib.Core.List.{List}
 use mathlib.Core.Logic.{_≢_}
-use Prim.Native.Nat.{ℕ, suc, _+_, _-_, _<_, _≤_}
+use Prim.Native.Nat.{ℕ, _+_, _-_, _<_, _≤_}
 use native.Mathlib.Omega.{arith}
 use borrow.Author.Count.{below-more}
 use lib.ListN.{length, getD, set, length-set}
 use lib.Seq.{getD-set-same, getD-set-other}
 use Rattle.runs.specs.declared.gap.Gap.{Gap}
-use Rattle.runs.specs.declared.signature.Signature.{Signature}
 use Rattle.runs.specs.Gaps.{low, high}
 use Rattle.runs.specs.Signatures.{gapsOf}
 use Rattle.engines.specs.Blocks.{block}
 use Rattle.engines.specs.Masked.{Allows}
-use Rattle.engines.proofs.Signatures.{gaps-length, gap-ordered, gap-narrow}
+use Rattle.engines.proofs.Signatures.{gaps-length, gap-sound}
 use Rattle.engines.proofs.windows.Windows.new.Needs as need
-
--- gap j of those that are used
-record Sound (gs : List Gap) (j : ℕ) : Type 0 where
-  few : j < 31
-  ordered : low gs j ≤ high gs j
-  narrow : high gs j ≤ 63
-
-sound : (s : Signature) (gs : List Gap) (j : ℕ) → gs ≡ gapsOf s → j < length gs → Sound gs j
-sound s gs j e l =
-    let n = gaps-length s in
-    let lt : j < length (gapsOf s) = subst (λ (xs : List Gap). j < length xs) e l in
-    record {
-      few = omega (arith, s .few);
-      ordered = subst (λ (xs : List Gap). low xs j ≤ high xs j) (sym e) (gap-ordered s j (omega arith));
-      narrow = subst (λ (xs : List Gap). high xs j ≤ 63) (sym e) (gap-narrow s j (omega arith));
-    }
 
 more : (gs : List Gap) (allowed : List ℕ) (j window : ℕ) → j < 31 → length allowed ≡ 31 → Allows gs j allowed → window ≡ block (low gs j) (high gs j - low gs j + 1) → Allows gs (j + 1) (set allowed j window)
 more gs allowed j window l long have e = below-more (λ i. getD (set allowed j window) i 0 ≡ block (low gs i) (high gs i - low gs i + 1)) j
@@ -37,10 +20,10 @@ more gs allowed j window l long have e = below-more (λ i. getD (set allowed j w
     (getD-set-same allowed j window 0 (omega arith) ∙ e)
 
 pub sub-gap : need.sub-gap
-sub-gap c = sound (c .args .signature .now) _ _ (c .used-gaps-gaps .ensures) (c .loop-j-test .taken) .ordered
+sub-gap c = gap-sound (c .args .signature .now) _ _ (c .used-gaps-gaps .ensures) (c .loop-j-test .taken) .ordered
 
 pub ones-requires : need.ones-requires
-ones-requires c κs = let o = sound (c .args .signature .now) _ _ (c .used-gaps-gaps .ensures) (c .loop-j-test .taken) in omega (arith, o .ordered, o .narrow)
+ones-requires c κs = let o = gap-sound (c .args .signature .now) _ _ (c .used-gaps-gaps .ensures) (c .loop-j-test .taken) in omega (arith, o .ordered, o .narrow)
 
 pub loop-j-holds : need.loop-j-holds
 loop-j-holds c = (refl, λ j l. let z : ⊥ = omega arith in absurd z)
@@ -48,7 +31,7 @@ loop-j-holds c = (refl, λ j l. let z : ⊥ = omega arith in absurd z)
 pub loop-j-again : need.loop-j-again
 loop-j-again c =
     let inv = c .loop-j .inv in
-    let o = sound (c .args .signature .now) _ _ (c .used-gaps-gaps .ensures) (c .loop-j-test .taken) in
+    let o = gap-sound (c .args .signature .now) _ _ (c .used-gaps-gaps .ensures) (c .loop-j-test .taken) in
     (simp length-set (inv .0), more _ _ _ _ (o .few) (inv .0) (inv .1) (c .ones .ensures))
 
 pub ghost-result : need.ghost-result

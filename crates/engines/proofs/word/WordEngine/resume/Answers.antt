@@ -1,11 +1,7 @@
-use mathlib.Core.Path.{_≡_, refl, ap, subst, _∙_}
-use Prim.Native.Nat.{ℕ, _+_}
-use lib.ListN.{getD}
-use Rattle.runs.specs.declared.signature.Signature.{Signature}
-use Rattle.runs.specs.Signatures.{gapsOf}
+use mathlib.Core.Path.{refl, ap, _∙_}
+use Prim.Native.Nat.{_+_}
 use Rattle.engines.specs.declared.layout.Layout.{Layout}
-use Rattle.engines.specs.Fields.{offset, fieldsSay}
-use Rattle.engines.specs.Memory.{Memory, Moved}
+use Rattle.engines.specs.Fields.{offset}
 use Rattle.engines.proofs.Bits.{bit-zero}
 use Rattle.engines.proofs.Recalled.{recalls-none, recalls-more, recalls-all, moved-shape}
 use Rattle.engines.proofs.word.WordEngine.resume.Needs as need

@@ -1,13 +1,13 @@
-use mathlib.Core.Path.{_≡_, refl, sym, ap, subst, _∙_}
+use mathlib.Core.Path.{refl, ap}
 use mathlib.Core.Bool.{not}
-use Prim.Native.Nat.{ℕ, suc, _+_, _-_, _^_, _<_}
+use Prim.Native.Nat.{_^_, _<_}
 use native.Mathlib.Omega.{arith}
 use lib.Bits.{bitAnd, and-le-r}
 use Rattle.std.proofs.shelf.Tests.{eqb-false, not-true, ne-eqb}
 use Rattle.engines.proofs.Bits.{set-same, set-other}
 use Rattle.engines.proofs.Fields.{moved-first, moved-set, window-tells}
 use Rattle.engines.proofs.LowBit.{low-bit}
-use Rattle.engines.proofs.Looking.{Looking, looking-first, looking-skip, looking-set, looked, next-slot}
+use Rattle.engines.proofs.Looking.{looking-first, looking-skip, looking-set, looked, next-slot}
 use Rattle.engines.proofs.Signatures.{gap-ordered}
 use Rattle.engines.proofs.word.WordEngine.step.Needs as need
 
