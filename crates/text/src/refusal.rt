@@ -14,7 +14,7 @@ pub enum Layer {
     File,
 }
 
-impl fmt::Display for Layer as LayerDisplay {
+pub impl fmt::Display for Layer as LayerDisplay {
     ghost shown = { λ l. Some (layerName l) };
 
     fn fmt<W: fmt::Write>(&self, f: &mut fmt::Formatter<W>) -> fmt::Result {
@@ -127,7 +127,7 @@ impl Refusal {
     }
 }
 
-impl fmt::Display for Refusal as RefusalDisplay {
+pub impl fmt::Display for Refusal as RefusalDisplay {
     ghost shown = { λ r. Some (refusalLine r) };
 
     fn fmt<W: fmt::Write>(&self, f: &mut fmt::Formatter<W>) -> fmt::Result {
