@@ -26,8 +26,8 @@ abbrev pub partsOf : List ℕ → Result (List ℕ × List ℕ) Refusal
 partsOf file =
     cond (ltb (length file) 8 || ltb 16384 (length file)) (Err (FileSize (min (length file) 16385)))
     (cond (eqb (8 + textLength file + codeCount file) (length file))
-     (Ok (take (textLength file) (drop 8 file), drop (textLength file) (drop 8 file)))
-     (Err (FileParts (length file))))
+    (Ok (take (textLength file) (drop 8 file), drop (8 + textLength file) file))
+    (Err (FileParts (length file))))
 
 -- what the parts hold
 abbrev pub held : Result Parts Refusal → Result (List ℕ × List ℕ) Refusal

@@ -19,13 +19,18 @@ pub fn read_parts<'a>(file: &'a [u8]) -> Result<Parts<'a>, Refusal>
 {
     let bytes = file.len();
     if bytes < 8 || bytes > LARGEST {
-        return Err(Refusal::FileSize { bytes: bytes.min(LARGEST + 1) });
+        return Err(Refusal::FileSize {
+            bytes: bytes.min(LARGEST + 1),
+        });
     }
     let text = u64::from(u32::from_le_bytes([file[0], file[1], file[2], file[3]]));
     let codes = u64::from(u32::from_le_bytes([file[4], file[5], file[6], file[7]]));
     if 8 + text + codes != bytes as u64 {
         return Err(Refusal::FileParts { bytes });
     }
-    let (text, codes) = file[8..].split_at(text as usize);
-    Ok(Parts { text, codes })
+    let end = 8 + text as usize;
+    Ok(Parts {
+        text: &file[8..end],
+        codes: &file[end..bytes],
+    })
 }

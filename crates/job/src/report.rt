@@ -13,7 +13,13 @@ pub fn refusal_text(heap: Global, refusal: Refusal) -> Result<String, AllocError
 }
 
 // The line of a hit: its place, and the places of its trace.
-fn push_hit(heap: Global, text: &mut String, signature: &Signature, sheet: &[u32], end: usize) -> Result<(), AllocError> {
+fn push_hit(
+    heap: Global,
+    text: &mut String,
+    signature: &Signature,
+    sheet: &[u32],
+    end: usize,
+) -> Result<(), AllocError> {
     let mut places = [0; 32];
     if trace(signature, sheet, end, &mut places).is_ok() {
         text.push_str(format!(heap, "hit {end} at")?.as_str())?;
@@ -26,7 +32,12 @@ fn push_hit(heap: Global, text: &mut String, signature: &Signature, sheet: &[u32
 }
 
 /// A line for each hit, lowest first, and one with the number of hits and of readings.
-pub fn report_text(heap: Global, signature: &Signature, sheet: &[u32], count: usize) -> Result<String, AllocError> {
+pub fn report_text(
+    heap: Global,
+    signature: &Signature,
+    sheet: &[u32],
+    count: usize,
+) -> Result<String, AllocError> {
     let mut text = String::new(heap);
     for place in 0..sheet.len() {
         if is_hit(signature, sheet, place) {

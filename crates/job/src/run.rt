@@ -15,7 +15,12 @@ use std::alloc::Global;
 use text::refusal::Refusal;
 
 // Reads the signature, and searches the codes.
-fn search_text(text: &[u8], codes: &[u8], signature: &mut Signature, sheet: &mut [u32]) -> Result<usize, Refusal> {
+fn search_text(
+    text: &[u8],
+    codes: &[u8],
+    signature: &mut Signature,
+    sheet: &mut [u32],
+) -> Result<usize, Refusal> {
     let mut gauge = Event::new();
     read_signature(&mut gauge, signature, text)?;
     search(&gauge, Word::new(), signature, codes, sheet)
