@@ -21,7 +21,7 @@ use Rattle.runs.proofs.Listed.{kept-more}
 use Rattle.runs.proofs.Traced.{trace-is, trace-only, final}
 use Rattle.runs.proofs.Nth.{nth-take}
 
-kept-same : (f g : ℕ → Bool) (a n : ℕ) → ((k : ℕ) → a ≤ k → k < a + n → f k ≡ g k) → kept-by f (counting a n) ≡ kept-by g (counting a n)
+pub kept-same : (f g : ℕ → Bool) (a n : ℕ) → ((k : ℕ) → a ≤ k → k < a + n → f k ≡ g k) → kept-by f (counting a n) ≡ kept-by g (counting a n)
 kept-same f g a zero same = refl
 kept-same f g a (suc n) same = rw (same a (omega arith) (omega arith), kept-same f g (a + 1) n (λ k l b. same k (omega arith) (omega arith)))
 

@@ -14,3 +14,4 @@ pub mod Next
 pub mod Repaired
 pub mod Below
 pub mod Patterns
+pub mod Alike

@@ -20,7 +20,7 @@ use Rattle.runs.specs.Words.{some, bits, mark, word, words}
 use Rattle.runs.proofs.Worded.{halved, bits-same, bit-mark, bit-decides, bit-above, word-below, word-bits, length-words, getD-words}
 use Rattle.runs.proofs.Windowed.{back, mark-windowed, windowed}
 
-some-same : (f g : ℕ → Bool) (n : ℕ) → ((d : ℕ) → f d ≡ g d) → some f n ≡ some g n
+pub some-same : (f g : ℕ → Bool) (n : ℕ) → ((d : ℕ) → f d ≡ g d) → some f n ≡ some g n
 some-same f g zero same = refl
 some-same f g (suc n) same = rw (same n, some-same f g n same)
 

@@ -1,3 +1,4 @@
 pub mod Searched
 pub mod Filled
 pub mod Back
+pub mod Told

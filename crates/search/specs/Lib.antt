@@ -1,3 +1,4 @@
 pub mod Openings
 pub mod Sheets
 pub mod Traces
+pub mod Laws

@@ -4,6 +4,8 @@ use mathlib.Core.List.{List, _++_}
 use Prim.Native.Nat.{ℕ, _-_}
 use lib.Dec.{eqb, ltb, leb}
 use lib.ListN.{length, getD, drop}
+use Rattle.std.specs.Iters.{counting}
+use Rattle.std.specs.shelf.Lists.{kept-by}
 use Rattle.std.specs.declared.result.Result.{Result}
 use Rattle.std.specs.declared.result.Result.the-variants.{Ok, Err}
 use Rattle.text.specs.declared.refusal.Refusal.{Refusal}
@@ -20,6 +22,10 @@ sheetMarks sheet j p = bit (getD sheet p 0) j
 -- a place of the sheet that bears the last slot's mark
 abbrev pub isHit : Signature → List ℕ → ℕ → Bool
 isHit s sheet p = ltb p (length sheet) && (ltb 0 (s .slots) && sheetMarks sheet (s .slots - 1) p)
+
+-- the hits of a sheet, lowest first
+abbrev pub hitsOf : Signature → List ℕ → List ℕ
+hitsOf s sheet = kept-by (isHit s sheet) (counting 0 (length sheet))
 
 -- a place for each slot, back from p
 abbrev pub traceOf : Signature → List ℕ → ℕ → List ℕ
