@@ -20,6 +20,7 @@ pub struct Windows {
 }
 
 impl Windows {
+    /// The windows of a signature.
     pub fn new(signature: &Signature) -> Windows
         ensures { λ r. ⌜ r .signature ≡ now (signature .entry) ⌝ }
     {

@@ -4,14 +4,17 @@ use Rattle.std.proofs.shelf.Tests.{both-ways, false≢true}
 use Rattle.runs.specs.declared.gap.Gap.{Gap}
 use Rattle.engines.proofs.Bits.{bit-on}
 use Rattle.engines.proofs.Rings.{none-more}
-use Rattle.engines.proofs.Signatures.{gap-narrow}
+use Rattle.engines.proofs.Signatures.{gap-ordered, gap-narrow}
 use Rattle.engines.proofs.ring.Ring.seen.Needs as need
 
 pub loop-d-holds : need.loop-d-holds
 loop-d-holds c = λ e l h. let z : ⊥ = omega (arith, ap (λ (g : Gap). g .lo) (c .gap-at-gap .ensures)) in absurd z
 
 pub sub-word : need.sub-word
-sub-word c = omega (arith, c .loop-d-test .taken, ap (λ (g : Gap). g .hi) (c .gap-at-gap .ensures), gap-narrow (c .args .self .now .signature) (c .args .j) (c .pre))
+sub-word c =
+    let s = c .args .self .now .signature in
+    let gap = c .gap-at-gap .ensures in
+    omega (arith, c .loop-d-test .taken, ap (λ (g : Gap). g .lo) gap, ap (λ (g : Gap). g .hi) gap, gap-ordered s (c .args .j) (c .pre), gap-narrow s (c .args .j) (c .pre))
 
 pub loop-d-again : need.loop-d-again
 loop-d-again c = none-more _ _ _ _ _ (c .loop-d .inv) (c .if-word-j-eq1 .left)
