@@ -17,7 +17,7 @@ abbrev pub openingBy : ℕ → ℕ → ℕ → ℕ → List Gap → Result (Unit
 openingBy limit readings sheet slots gaps =
     cond (not (eqb readings sheet) || (eqb readings 0 || ltb 1000000 readings)) (Err Buffers)
     (cond (eqb slots 0) (Err NoSlots)
-     (cond (ltb limit (reach gaps)) (Err FarReach) (Ok tt)))
+    (cond (ltb limit (reach gaps)) (Err FarReach) (Ok tt)))
 
 abbrev pub opening : ℕ → ℕ → ℕ → Signature → Result (Unit {0}) Refusal
 opening limit readings sheet s = openingBy limit readings sheet (s .slots) (gapsOf s)
