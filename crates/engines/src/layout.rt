@@ -31,7 +31,7 @@ pub struct Layout {
 
 impl Layout {
     /// The fields of a signature whose runs take 64 places at most.
-    pub fn new(signature: &Signature) -> Layout
+    pub(crate) fn new(signature: &Signature) -> Layout
         requires { ⌜ reach (gapsOf (now signature)) ≤ 64 ⌝ }
         ensures { λ r. ⌜ r .signature ≡ now (signature .entry) ⌝ }
     {

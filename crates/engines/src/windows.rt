@@ -21,7 +21,7 @@ pub struct Windows {
 
 impl Windows {
     /// The windows of a signature.
-    pub fn new(signature: &Signature) -> Windows
+    pub(crate) fn new(signature: &Signature) -> Windows
         ensures { λ r. ⌜ r .signature ≡ now (signature .entry) ⌝ }
     {
         let gaps = signature.used_gaps();

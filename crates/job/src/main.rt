@@ -2,6 +2,8 @@
 mod job_file;
 mod report;
 mod run;
+#[cfg(test)]
+mod tests;
 
 use run::run_job;
 use std::io;
