@@ -2,3 +2,4 @@ pub mod Sets
 pub mod Slots
 pub mod Joins
 pub mod Outcomes
+pub mod Grammar

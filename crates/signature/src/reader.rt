@@ -6,6 +6,7 @@ ghost use Prim.Native.Nat.{ℕ, _+_, _-_, _≤_, _<_};
 ghost use Rattle.std.specs.Results.{isOk};
 ghost use Rattle.runs.specs.Signatures.{gapsOf, Blank, BlankFrom};
 ghost use Rattle.signature.specs.Outcomes.{slotsAt, signatureAt, Left, answer};
+ghost use Rattle.signature.specs.Grammar.{Reads-exactly, One-plan, Answers};
 use crate::gauge::Gauge;
 use crate::gauge::WrittenGauge;
 use crate::join::read_join;
@@ -84,6 +85,9 @@ pub fn read_signature<G: WrittenGauge>(
 ) -> Result<(), Refusal>
     ensures value { λ r. ⌜ r ≡ answer (signatureAt (G·WrittenGauge .reads) (now (text .entry))) ⌝ }
     ensures left { λ _. ⌜ Left (signatureAt (G·WrittenGauge .reads) (now (text .entry))) (G·Gauge .sets (now (gauge .exit))) (now (signature .exit)) ⌝ }
+    ensures grammar { λ _. ⌜ Reads-exactly (G·WrittenGauge .reads) (now (text .entry)) ⌝ }
+    ensures one { λ _. ⌜ One-plan (G·WrittenGauge .reads) (now (text .entry)) ⌝ }
+    ensures answers { λ r. ⌜ Answers (G·WrittenGauge .reads) (now (text .entry)) r (G·Gauge .sets (now (gauge .exit))) (now (signature .exit)) ⌝ }
 {
     clear(gauge, signature);
     if text.len() > LONGEST {
