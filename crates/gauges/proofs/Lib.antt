@@ -3,3 +3,4 @@ pub mod Flips
 pub mod Tables
 pub mod Ends
 pub mod Events
+pub mod Derived

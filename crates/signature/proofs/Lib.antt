@@ -1,3 +1,3 @@
 pub mod Written
 pub mod Reading
-pub mod Grammar
+pub mod Derived

@@ -2,4 +2,4 @@ pub mod Digits
 pub mod Marks
 pub mod Words
 pub mod Bounds
-pub mod Grammar
+pub mod Derived

@@ -14,7 +14,7 @@ use Rattle.runs.specs.declared.signature.Signature.{Signature as Shape}
 use Rattle.runs.specs.Signatures.{Blank}
 use Rattle.signature.specs.Slots.{Reads}
 use Rattle.signature.specs.Outcomes.{Plan, slotsAt, signatureAt, Left, answer}
-use Rattle.signature.proofs.Grammar.{reads-exactly, one-plan, answers}
+use Rattle.signature.proofs.Derived.{reads-exactly, one-plan, answers}
 use Rattle.signature.proofs.reader.read_signature.Needs as need
 
 short : {R : Type 0} (reads : Reads R) (s : List ℕ) → length s ≤ 4096 → signatureAt reads s ≡ slotsAt reads s

@@ -20,7 +20,7 @@ use Rattle.text.specs.Numbers.{numberAt}
 use Rattle.text.specs.Marks.{isMark, takeMark}
 use Rattle.text.specs.Grammar.{MarkText, NumberText}
 use Rattle.text.proofs.Bounds.{mark-inside}
-use Rattle.text.proofs.Grammar.{both, either, ok-same, mark-sound, mark-complete, number-sound, number-complete}
+use Rattle.text.proofs.Derived.{both, either, ok-same, mark-sound, mark-complete, number-sound, number-complete}
 use Rattle.runs.specs.declared.gap.Gap.{Gap}
 use Rattle.runs.specs.declared.signature.Signature.{Signature as Shape}
 use Rattle.runs.specs.Gaps.{noGap}

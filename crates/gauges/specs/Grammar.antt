@@ -1,0 +1,41 @@
+-- The grammar of a slot of event codes: what stands in the text from place a up to place b, and the codes that it stands for.
+use mathlib.Core.Path.{_≡_}
+use mathlib.Core.Bool.{Bool, not, _&&_, _||_}
+use mathlib.Core.Logic.{_↔_}
+use mathlib.Core.List.{List}
+use Prim.Native.Nat.{ℕ, _≤_}
+use lib.Dec.{leb, ltb}
+use Rattle.std.specs.declared.result.Result.the-variants.{Ok}
+use Rattle.text.specs.declared.mark.Mark.{Mark}
+use Rattle.text.specs.declared.mark.Mark.the-variants.{ClassOpen, ClassClose, BarredOpen, BarredClose, Colon, Space}
+use Rattle.text.specs.Grammar.{MarkText, NumberText}
+use Rattle.gauges.specs.Codes.{eventAt}
+
+-- the codes from v to w, both counted
+abbrev pub range : ℕ → ℕ → ℕ → Bool
+range v w c = leb v c && leb c w
+
+pub data MemberText (s : List ℕ) : ℕ → ℕ → (ℕ → Bool) → Type 0 where
+  -- `7`
+  lone : {a b v : ℕ} → NumberText s a b v → v ≤ 255 → MemberText s a b (range v v)
+  -- `7:9`
+  pair : {a b c d v w : ℕ} → NumberText s a b v → MarkText Colon s b c → NumberText s c d w → v ≤ w → w ≤ 255 → MemberText s a d (range v w)
+
+-- members up to the closing mark, with it
+pub data MembersText (shut : Mark) (s : List ℕ) : ℕ → ℕ → (ℕ → Bool) → Type 0 where
+  -- `7:9]`
+  last : {a b c : ℕ} {f : ℕ → Bool} → MemberText s a b f → MarkText shut s b c → MembersText shut s a c f
+  -- `7:9 12]`
+  more : {a b c d : ℕ} {f g : ℕ → Bool} → MemberText s a b f → MarkText Space s b c → MembersText shut s c d g → MembersText shut s a d (λ x. f x || g x)
+
+pub data EventText (s : List ℕ) : ℕ → ℕ → (ℕ → Bool) → Type 0 where
+  -- `7`
+  code : {a b v : ℕ} → NumberText s a b v → v ≤ 255 → EventText s a b (range v v)
+  -- `[7:9 12]`
+  listed : {a b c : ℕ} {f : ℕ → Bool} → MarkText ClassOpen s a b → MembersText ClassClose s b c f → EventText s a c f
+  -- `{7:9 12}`: every code not listed
+  barred : {a b c : ℕ} {f : ℕ → Bool} → MarkText BarredOpen s a b → MembersText BarredClose s b c f → EventText s a c (λ x. ltb x 256 && not (f x))
+
+-- a slot is read just where the grammar derives it
+abbrev pub Event-exactly : Type 0
+Event-exactly = (s : List ℕ) (a b : ℕ) (f : ℕ → Bool) → eventAt s a ≡ Ok (f, b) ↔ EventText s a b f
