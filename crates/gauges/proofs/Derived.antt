@@ -29,7 +29,7 @@ Sets = ℕ → Bool
 
 -- what is read is derived
 
-member-sound : (s : List ℕ) (a : ℕ) (m : Member) → memberAt s a ≡ Ok m → MemberText s a (m .end) (covers m)
+pub member-sound : (s : List ℕ) (a : ℕ) (m : Member) → memberAt s a ≡ Ok m → MemberText s a (m .end) (covers m)
 member-sound s a m is =
     let (v, first, is1) = both (numberAt 255 s a) _ m is in
     let (number, small, place) = number-sound s a 255 v first in
@@ -119,7 +119,7 @@ member-complete s a d _ free (pair {b = b} {c = c} {v = v} {w = w} number colon 
 number-inside : (s : List ℕ) (a b v : ℕ) → NumberText s a b v → (a < b) × (b ≤ length s)
 number-inside s a b v t = number-within v s a (record { value = v; place = a; end = b }) (number-complete s a v b v t (omega arith))
 
-member-inside : (s : List ℕ) (a b : ℕ) (f : Sets) → MemberText s a b f → (a < b) × (a < length s)
+pub member-inside : (s : List ℕ) (a b : ℕ) (f : Sets) → MemberText s a b f → (a < b) × (a < length s)
 member-inside s a b _ (lone {v = v} number small) = let l = number-inside s a b v number in (l .0, omega arith)
 member-inside s a d _ (pair {b = b} {c = c} {v = v} {w = w} number colon number′ le small) =
     let l = number-inside s a b v number in

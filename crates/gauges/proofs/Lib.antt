@@ -4,3 +4,4 @@ pub mod Tables
 pub mod Ends
 pub mod Events
 pub mod Derived
+pub mod Alike

@@ -1,3 +1,4 @@
 pub mod Written
 pub mod Reading
 pub mod Derived
+pub mod Alike

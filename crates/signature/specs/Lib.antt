@@ -3,3 +3,4 @@ pub mod Slots
 pub mod Joins
 pub mod Outcomes
 pub mod Grammar
+pub mod Refused

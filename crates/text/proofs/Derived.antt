@@ -18,8 +18,9 @@ use Rattle.text.specs.declared.mark.Mark.{Mark}
 use Rattle.text.specs.declared.number.Number.{Number}
 use Rattle.text.specs.declared.refusal.Layer.{Layer}
 use Rattle.text.specs.declared.refusal.Refusal.{Refusal}
+use Rattle.text.specs.declared.refusal.Refusal.the-variants.{NoDigit, OutOfRange}
 use Rattle.text.specs.Refusals.{_then_}
-use Rattle.text.specs.Words.{isDigit, digitsAt}
+use Rattle.text.specs.Words.{isDigit, digitsAt, placeIn}
 use Rattle.text.specs.Numbers.{valueOf, numberAt}
 use Rattle.text.specs.Marks.{codeOf, isMark, takeMark}
 use Rattle.text.specs.Grammar.{MarkText, NumberText}
@@ -30,6 +31,11 @@ use Rattle.text.proofs.Marks.{mark-no-digit}
 pub both : {A B : Type 0} (r : Result A Refusal) (f : A → Result B Refusal) (b : B) → (r then f) ≡ Ok b → (a : A) × (r ≡ Ok a) × (f a ≡ Ok b)
 both (Ok a) f b is = (a, refl, is)
 both (Err e) f b is = absurd (let z : _≡_ {A = ℕ} 0 1 = cc in omega arith)
+
+-- what follows matters only at what was read
+pub then-same : {A B : Type 0} (r : Result A Refusal) (f g : A → Result B Refusal) → ((a : A) → r ≡ Ok a → f a ≡ g a) → (r then f) ≡ (r then g)
+then-same (Ok a) f g same = same a refl
+then-same (Err e) f g same = refl
 
 pub ok-same : {A : Type 0} (a b : A) → _≡_ {A = Result A Refusal} (Ok a) (Ok b) → a ≡ b
 ok-same a b is = cc
@@ -89,6 +95,24 @@ module _ (s : List ℕ) (a : ℕ) where
           (ap isDigit (getD-drop a s (b - a) 0) ∙ ap (λ i. isDigit (getD s i 0)) on ∙ t .stops) in
       let value : valueOf (digitsAt s a) ≡ v = rw run (t .value) in
       grind (arith, tells)
+
+  -- a number is refused where no digit stands, or where it is too large
+  pub number-none : (limit : ℕ) → isDigit (getD s a 0) ≡ false → numberAt limit s a ≡ Err (NoDigit (placeIn s a))
+  number-none limit stop =
+      let here : a + 0 ≡ a = omega arith in
+      let run : leading isDigit (drop a s) ≡ 0 = leading-is isDigit (drop a s) 0 refl (λ k l. absurd (omega arith)) (ap isDigit (getD-drop a s 0 0) ∙ ap (λ i. isDigit (getD s i 0)) here ∙ stop) in
+      rw run refl
+
+  pub number-refused : (limit : ℕ) (x : Refusal) → numberAt limit s a ≡ Err x → ((isDigit (getD s a 0) ≡ false) × (x ≡ NoDigit (placeIn s a))) ⊎ (x ≡ OutOfRange a)
+  number-refused limit x is =
+      ⊎-elim
+      (λ (t : isDigit (getD s a 0) ≡ true). inr (
+        let here : a + 0 ≡ a = omega arith in
+        let first : isDigit (getD (drop a s) 0 0) ≡ true = ap isDigit (getD-drop a s 0 0) ∙ ap (λ i. isDigit (getD s i 0)) here ∙ t in
+        let some : leading isDigit (drop a s) ≡ 0 → ⊥ = λ z. let stop = leading-stops isDigit (drop a s) refl in let w : _≡_ {A = ℕ} 0 1 = grind (arith, tells) in omega arith in
+        grind (arith, tells)))
+      (λ (f : isDigit (getD s a 0) ≡ false). inl (f, let is′ = number-none limit f in cc))
+      (cases-bool (isDigit (getD s a 0)))
 
 -- a digit is no mark
 pub digit-no-mark : (m : Mark) (s : List ℕ) (a : ℕ) → isDigit (getD s a 0) ≡ true → isMark m s a ≡ false

@@ -3,3 +3,4 @@ pub mod Marks
 pub mod Words
 pub mod Bounds
 pub mod Derived
+pub mod Local
