@@ -116,7 +116,7 @@ member-complete s a d _ free (pair {b = b} {c = c} {v = v} {w = w} number colon 
     let second : numberAt 255 s (b + 1) ≡ Ok (record { value = w; place = b + 1; end = d }) = number-complete s (b + 1) 255 d w (subst (λ i. NumberText s i d w) (colon .behind) number′) small in
     (record { low = v; high = w; end = d }, rw (number-complete s a 255 b v number (omega arith), colon .stands, second, t) refl, refl, λ c. refl)
 
-number-inside : (s : List ℕ) (a b v : ℕ) → NumberText s a b v → (a < b) × (b ≤ length s)
+pub number-inside : (s : List ℕ) (a b v : ℕ) → NumberText s a b v → (a < b) × (b ≤ length s)
 number-inside s a b v t = number-within v s a (record { value = v; place = a; end = b }) (number-complete s a v b v t (omega arith))
 
 pub member-inside : (s : List ℕ) (a b : ℕ) (f : Sets) → MemberText s a b f → (a < b) × (a < length s)

@@ -5,3 +5,4 @@ pub mod Ends
 pub mod Events
 pub mod Derived
 pub mod Alike
+pub mod Begins

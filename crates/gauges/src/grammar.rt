@@ -1,7 +1,7 @@
 //! The laws of the text of a slot of event codes, and of a signature of such slots.
 ghost use mathlib.Core.List.{List};
 ghost use Prim.Native.Nat.{ℕ};
-ghost use Rattle.signature.specs.Refused.{Looks, Refused-alike};
+ghost use Rattle.signature.specs.Refused.{Looks, Refused-alike, Goes-on, Begins-some};
 ghost use Rattle.gauges.specs.Codes.{eventAt};
 ghost use Rattle.gauges.specs.Grammar.{Event-exactly};
 
@@ -18,6 +18,16 @@ pub fn event_grammar() -> u8
 pub fn event_refusals() -> u8
     ensures looks { λ _. ⌜ Looks eventAt ⌝ }
     ensures alike { λ _. ⌜ ((s : List ℕ) → Refused-alike eventAt s) ⌝ }
+{
+    0
+}
+
+/// Some slot can follow any bytes, a slot is one whatever comes behind it that is no digit, and where a slot is refused, the
+/// bytes before the refusal's place begin some slot. So the bytes before the place where a signature is refused begin
+/// some text of the grammar.
+pub fn event_beginnings() -> u8
+    ensures goes { λ _. ⌜ Goes-on eventAt ⌝ }
+    ensures begins { λ _. ⌜ ((s : List ℕ) → Begins-some eventAt s) ⌝ }
 {
     0
 }

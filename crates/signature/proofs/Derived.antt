@@ -30,7 +30,7 @@ use Rattle.signature.specs.Joins.{gapAt, noGapAt, joinAt}
 use Rattle.signature.specs.Outcomes.{Plan, restAt, slotsAt, signatureAt, Left, answer}
 use Rattle.signature.specs.Grammar.{JoinText, none, gap, SlotText, RestText, end, more, SignatureText, slots, One-plan, Derives, Reads-exactly, Answers}
 
-no-gap-sound : (s : List ℕ) (a b : ℕ) → noGapAt s a ≡ Ok b → (isMark Cross s a ≡ false) × (a ≡ b)
+pub no-gap-sound : (s : List ℕ) (a b : ℕ) → noGapAt s a ≡ Ok b → (isMark Cross s a ≡ false) × (a ≡ b)
 no-gap-sound s a b is =
     either (isMark Cross s a) _ _ b is
     (λ t f. absurd (let z : _≡_ {A = ℕ} 0 1 = cc in omega arith))
@@ -57,7 +57,7 @@ gap-sound s a j is =
       (mark-sound s (hi .end) Signature Close g close) dash le (high′ .1)))
     (λ t f. absurd (let z : _≡_ {A = ℕ} 0 1 = cc in omega arith))
 
-join-sound : (s : List ℕ) (a : ℕ) (j : Join) → joinAt s a ≡ Ok j → JoinText s a (j .end) (j .gap) × (isMark Cross s (j .end) ≡ false)
+pub join-sound : (s : List ℕ) (a : ℕ) (j : Join) → joinAt s a ≡ Ok j → JoinText s a (j .end) (j .gap) × (isMark Cross s (j .end) ≡ false)
 join-sound s a j is =
     either (isMark Cross s a) _ _ j is
     (λ t is1.

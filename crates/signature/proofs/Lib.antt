@@ -2,3 +2,4 @@ pub mod Written
 pub mod Reading
 pub mod Derived
 pub mod Alike
+pub mod Begins

@@ -1,16 +1,20 @@
 -- What a refusal says of every text that begins as the refused one does.
 use mathlib.Core.Path.{_≡_}
-use mathlib.Core.Bool.{Bool}
-use mathlib.Core.List.{List}
+use mathlib.Core.Bool.{Bool, false}
+use mathlib.Core.List.{List, _++_}
 use Prim.Native.Nat.{ℕ, _+_, _≤_}
-use lib.ListN.{length, take}
+use lib.ListN.{length, getD, take}
 use Rattle.std.specs.declared.result.Result.the-variants.{Ok, Err}
+use Rattle.text.specs.declared.mark.Mark.the-variants.{Gap as Cross}
 use Rattle.text.specs.declared.refusal.Refusal.{Refusal}
+use Rattle.text.specs.declared.refusal.Refusal.the-variants.{LongText}
 use Rattle.text.specs.Refusals.{placeOf}
-use Rattle.text.specs.Words.{placeIn}
-use Rattle.text.specs.Places.{AtPlace}
+use Rattle.text.specs.Words.{isDigit, placeIn}
+use Rattle.text.specs.Marks.{isMark}
+use Rattle.text.specs.Places.{AtPlace, Begins}
 use Rattle.signature.specs.Slots.{Reads}
-use Rattle.signature.specs.Outcomes.{signatureAt}
+use Rattle.signature.specs.Outcomes.{Plan, signatureAt}
+use Rattle.signature.specs.Grammar.{SlotText, SignatureText}
 
 module _ {R : Type 0} (reads : Reads R) where
   -- the reading of a slot looks at no byte past the one behind the slot, or past the place where it is refused
@@ -22,3 +26,17 @@ module _ {R : Type 0} (reads : Reads R) where
   -- no text that has the same bytes up to the refusal's place, and at it, is read: each is refused alike
   abbrev pub Refused-alike : List ℕ → Type 0
   Refused-alike s = (x : Refusal) (t : List ℕ) → signatureAt reads s ≡ Err x → AtPlace x → take (placeOf x + 1) t ≡ take (placeOf x + 1) s → length t ≤ 4096 → signatureAt reads t ≡ Err x
+
+  -- a part of a text that is a slot
+  abbrev pub SomeSlot : List ℕ → ℕ → ℕ → Type 0
+  SomeSlot s a b = (set : R → Bool) × SlotText reads s a b set
+
+  -- some slot can follow any bytes; a slot is one whatever comes behind it that is no digit; and the bytes before a refusal's place begin some slot
+  pub record Goes-on : Type 0 where
+    pub some : (w : List ℕ) → (r : List ℕ) × SomeSlot (w ++ r) (length w) (length (w ++ r))
+    pub stays : (s t : List ℕ) (a b : ℕ) (set : R → Bool) → SlotText reads s a b set → take b t ≡ take b s → isDigit (getD t b 0) ≡ false → SlotText reads t a b set
+    pub begins : (s : List ℕ) (a : ℕ) (x : Refusal) → a ≤ length s → isMark Cross s a ≡ false → reads s a ≡ Err x → Begins SomeSlot s a x
+
+  -- a text is refused no later than it has to be: the bytes before the refusal's place begin some text of the grammar
+  abbrev pub Begins-some : List ℕ → Type 0
+  Begins-some s = (x : Refusal) → signatureAt reads s ≡ Err x → (x ≡ LongText → ⊥) → (r : List ℕ) × (p : Plan R) × SignatureText reads (take (placeOf x) s ++ r) p

@@ -7,7 +7,7 @@ ghost use Rattle.std.specs.Results.{isOk};
 ghost use Rattle.runs.specs.Signatures.{gapsOf, Blank, BlankFrom};
 ghost use Rattle.signature.specs.Outcomes.{slotsAt, signatureAt, Left, answer};
 ghost use Rattle.signature.specs.Grammar.{Reads-exactly, One-plan, Answers};
-ghost use Rattle.signature.specs.Refused.{Looks, Refused-alike};
+ghost use Rattle.signature.specs.Refused.{Looks, Refused-alike, Goes-on, Begins-some};
 use crate::gauge::Gauge;
 use crate::gauge::WrittenGauge;
 use crate::join::read_join;
@@ -89,6 +89,7 @@ pub fn read_signature<G: WrittenGauge>(
     ensures grammar { λ _. ⌜ Reads-exactly (G·WrittenGauge .reads) (now (text .entry)) ⌝ }
     ensures one { λ _. ⌜ One-plan (G·WrittenGauge .reads) (now (text .entry)) ⌝ }
     ensures alike { λ _. ⌜ (Looks (G·WrittenGauge .reads) → Refused-alike (G·WrittenGauge .reads) (now (text .entry))) ⌝ }
+    ensures begins { λ _. ⌜ (Goes-on (G·WrittenGauge .reads) → Begins-some (G·WrittenGauge .reads) (now (text .entry))) ⌝ }
     ensures answers { λ r. ⌜ Answers (G·WrittenGauge .reads) (now (text .entry)) r (G·Gauge .sets (now (gauge .exit))) (now (signature .exit)) ⌝ }
 {
     clear(gauge, signature);

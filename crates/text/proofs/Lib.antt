@@ -4,3 +4,4 @@ pub mod Words
 pub mod Bounds
 pub mod Derived
 pub mod Local
+pub mod Begins

@@ -16,6 +16,7 @@ use Rattle.signature.specs.Slots.{Reads}
 use Rattle.signature.specs.Outcomes.{Plan, slotsAt, signatureAt, Left, answer}
 use Rattle.signature.proofs.Derived.{reads-exactly, one-plan, answers}
 use Rattle.signature.proofs.Alike.{refused-alike}
+use Rattle.signature.proofs.Begins.{begins-some}
 use Rattle.signature.proofs.reader.read_signature.Needs as need
 
 short : {R : Type 0} (reads : Reads R) (s : List ℕ) → length s ≤ 4096 → signatureAt reads s ≡ slotsAt reads s
@@ -48,7 +49,7 @@ returns-then-text-gt-LONGEST g c =
     let is = long reads s (c .if-text-gt-LONGEST .taken) in
     let value : Err LongText ≡ answer (signatureAt reads s) = sym (ap answer is) in
     let left = cleared (signatureAt reads s) LongText _ _ is (c .clear .ensures .empty) (c .clear .ensures .blank) in
-    record { value = value; left = left; grammar = reads-exactly reads s within; one = one-plan reads s; alike = λ looks. refused-alike reads looks within s; answers = answers reads s _ _ _ within value left }
+    record { value = value; left = left; grammar = reads-exactly reads s within; one = one-plan reads s; alike = λ looks. refused-alike reads looks within s; begins = λ goes. begins-some reads goes within s; answers = answers reads s _ _ _ within value left }
 
 pub returns-in-Ok : need.returns-in-Ok
 returns-in-Ok g c =
@@ -58,7 +59,7 @@ returns-in-Ok g c =
     let is = short reads s (c .if-text-gt-LONGEST .left) in
     let value : Ok tt ≡ answer (signatureAt reads s) = c .in-Ok .ensures tt .value ∙ sym (ap answer is) in
     let left = same-left (slotsAt reads s) (signatureAt reads s) _ _ (sym is) (c .in-Ok .ensures tt .left refl) in
-    record { value = value; left = left; grammar = reads-exactly reads s within; one = one-plan reads s; alike = λ looks. refused-alike reads looks within s; answers = answers reads s _ _ _ within value left }
+    record { value = value; left = left; grammar = reads-exactly reads s within; one = one-plan reads s; alike = λ looks. refused-alike reads looks within s; begins = λ goes. begins-some reads goes within s; answers = answers reads s _ _ _ within value left }
 
 pub returns-in-Err : need.returns-in-Err
 returns-in-Err g c =
@@ -68,4 +69,4 @@ returns-in-Err g c =
     let is = short reads s (c .if-text-gt-LONGEST .left) in
     let value : Err (c .in-Err .refusal) ≡ answer (signatureAt reads s) = c .in-Err .ensures tt .value ∙ sym (ap answer is) in
     let left = cleared (signatureAt reads s) (c .in-Err .refusal) _ _ (refused-by _ _ value) (c .clear-in-Err .ensures .empty) (c .clear-in-Err .ensures .blank) in
-    record { value = value; left = left; grammar = reads-exactly reads s within; one = one-plan reads s; alike = λ looks. refused-alike reads looks within s; answers = answers reads s _ _ _ within value left }
+    record { value = value; left = left; grammar = reads-exactly reads s within; one = one-plan reads s; alike = λ looks. refused-alike reads looks within s; begins = λ goes. begins-some reads goes within s; answers = answers reads s _ _ _ within value left }
