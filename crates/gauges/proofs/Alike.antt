@@ -1,32 +1,27 @@
 -- The reading of a slot of event codes looks at no byte past the one behind the slot, or past where it is refused.
-use mathlib.Core.Path.{_≡_, refl, sym, ap, subst, _∙_}
-use mathlib.Core.Bool.{Bool, true, false, cond}
-use mathlib.Core.Logic.{_⊎_, inl, inr, ⊎-elim}
-use mathlib.Core.List.{List, [], _∷_}
+use mathlib.Core.Path.{_≡_, refl, sym, ap, _∙_}
+use mathlib.Core.Bool.{cond}
+use mathlib.Core.Logic.{⊎-elim}
+use mathlib.Core.List.{List, _∷_}
 use Prim.Native.Nat.{ℕ, zero, suc, _+_, _≤_, _<_}
 use native.Mathlib.Omega.{arith}
 use lib.Dec.{leb}
-use lib.ListN.{length, take}
-use Rattle.std.specs.declared.result.Result.{Result}
-use Rattle.std.specs.declared.result.Result.the-variants.{Ok, Err}
+use lib.ListN.{length}
+use Rattle.std.specs.declared.result.Result.the-variants.{Ok}
 use Rattle.std.proofs.shelf.Tests.{cases-lt}
-use Rattle.std.proofs.shelf.Ways.{tells}
 use Rattle.text.specs.declared.mark.Mark.{Mark}
 use Rattle.text.specs.declared.mark.Mark.the-variants.{ClassOpen, ClassClose, BarredOpen, BarredClose, Colon, Space}
 use Rattle.text.specs.declared.number.Number.{Number}
 use Rattle.text.specs.declared.refusal.Layer.the-variants.{Slot}
-use Rattle.text.specs.declared.refusal.Refusal.{Refusal}
 use Rattle.text.specs.Refusals.{_then_, placeOf}
-use Rattle.text.specs.Words.{placeIn}
 use Rattle.text.specs.Marks.{isMark, takeMark}
-use Rattle.text.specs.Places.{AtPlace}
+use Rattle.text.proofs.Steps.{then-same}
 use Rattle.text.proofs.Bounds.{mark-inside, mark-within}
-use Rattle.text.proofs.Derived.{then-same}
-use Rattle.text.proofs.Local.{Agree, agree, Local, ok-local, err-local, later-local, cond-local, then-local, same-mark, inside, mark-local, number-local, not-backward}
+use Rattle.text.proofs.Local.{Agree, agree, Local, ok-local, err-local, later-local, cond-local, then-local, same-mark, mark-local, number-local, not-backward}
 use Rattle.signature.specs.Refused.{Looks, Refused-alike}
 use Rattle.signature.proofs.Alike.{refused-alike}
 use Rattle.gauges.specs.declared.codes.Member.{Member}
-use Rattle.gauges.specs.Codes.{memberAt, membersFrom, membersAt, Listed, slotAt, eventAt}
+use Rattle.gauges.specs.Codes.{memberAt, membersFrom, membersAt, slotAt, eventAt}
 use Rattle.gauges.proofs.Ends.{event-within}
 use Rattle.gauges.proofs.Derived.{member-inside, member-sound}
 

@@ -1,34 +1,29 @@
 -- Where a slot of event codes is refused, the bytes before the refusal's place begin some slot.
 use mathlib.Core.Path.{_≡_, refl, sym, ap, subst, _∙_}
-use mathlib.Core.Bool.{Bool, true, false, cond}
-use mathlib.Core.Logic.{_⊎_, inl, inr, ⊎-elim}
+use mathlib.Core.Bool.{Bool, true, false}
+use mathlib.Core.Logic.{_⊎_, inl, inr}
 use mathlib.Core.List.{List, [], _∷_, _++_}
 use Prim.Native.Nat.{ℕ, zero, suc, _+_, _≤_, _<_}
 use native.Mathlib.Omega.{arith}
 use lib.Dec.{leb}
 use lib.ListN.{length, getD, take}
-use Rattle.std.specs.declared.result.Result.{Result}
-use Rattle.std.specs.declared.result.Result.the-variants.{Ok, Err}
-use Rattle.std.proofs.shelf.Ways.{tells}
+use Rattle.std.specs.declared.result.Result.the-variants.{Err}
 use Rattle.text.specs.declared.mark.Mark.{Mark}
 use Rattle.text.specs.declared.mark.Mark.the-variants.{Gap as Cross, ClassOpen, ClassClose, BarredOpen, BarredClose, Colon, Space}
-use Rattle.text.specs.declared.number.Number.{Number}
 use Rattle.text.specs.declared.refusal.Layer.the-variants.{Slot}
 use Rattle.text.specs.declared.refusal.Refusal.{Refusal}
 use Rattle.text.specs.Refusals.{_then_, placeOf}
 use Rattle.text.specs.Words.{isDigit}
 use Rattle.text.specs.Numbers.{numberAt}
 use Rattle.text.specs.Marks.{isMark, takeMark}
-use Rattle.text.specs.Grammar.{MarkText, NumberText}
+use Rattle.text.specs.Grammar.{MarkText}
 use Rattle.text.specs.Places.{Begins}
-use Rattle.text.proofs.Bounds.{number-within, mark-within, mark-inside}
+use Rattle.text.proofs.Steps.{err-same, no-refusal, faults, ways}
+use Rattle.text.proofs.Bounds.{mark-within, mark-inside}
 use Rattle.text.proofs.Derived.{mark-sound, number-sound, digit-no-mark, one-mark}
-use Rattle.text.proofs.Local.{err-same}
-use Rattle.text.proofs.Begins.{Part, Fills, Stops, MarkThen, NumberThen, Ended, ways, faults, no-refusal, as-part, mark-moved, number-moved, mark-stops, mark-then-stops, ended-stops, front, fill-as, fill-end, fill-mark, fill-number, here, mark-place, number-place, mark-begins, number-begins}
-use Rattle.signature.specs.Grammar.{SlotText}
+use Rattle.text.proofs.Begins.{Part, Fills, Stops, MarkThen, NumberThen, Ended, as-part, mark-moved, number-moved, mark-stops, mark-then-stops, ended-stops, front, fill-as, fill-end, fill-mark, fill-number, here, mark-place, number-place, mark-begins, number-begins}
 use Rattle.signature.specs.Refused.{SomeSlot, Goes-on, Begins-some}
 use Rattle.signature.proofs.Begins.{begins-some}
-use Rattle.gauges.specs.declared.codes.Member.{Member}
 use Rattle.gauges.specs.Codes.{memberAt, covers, membersFrom, membersAt, slotAt, eventAt}
 use Rattle.gauges.specs.Grammar.{range, MemberText, lone, pair, MembersText, last, more, EventText, code, listed, barred}
 use Rattle.gauges.proofs.Ends.{event-within}
@@ -120,21 +115,21 @@ module _ (T : Part) (fills : Fills T) (stops : Stops T) where
         faults (numberAt 255 s a) _ x is
         (λ f. here MemberThen s a x in′ (number-place 255 s a x in′ f) fill-member)
         (λ v ok is1.
-          let (number, small, place) = number-sound s a 255 v ok in
-          ways (isMark Colon s (v .end)) _ _ (Err x) is1
-          (λ t is2.
-            let colon : MarkText Colon s (v .end) (v .end + 1) = record { stands = t; behind = refl } in
-            let w = mark-inside Colon s (v .end) t in
-            let in″ : v .end + 1 ≤ length s = omega arith in
-            faults (numberAt 255 s (v .end + 1)) _ x is2
-            (λ f. as-part First MemberThen s a x (λ t (v, b, number, few, (c, colon, (w, d, number′, (le, small), rest))). (d, range v w, pair number colon number′ le small, rest))
-              (number-begins (λ v. v ≤ 255) (λ v. MarkThen Colon (Second v)) s a (v .end) (v .value) x number small (mark-then-stops Colon (Second (v .value)))
-              (mark-begins Colon (Second (v .value)) s (v .end) (v .end + 1) x colon (here (Second (v .value)) s (v .end + 1) x in″ (number-place 255 s (v .end + 1) x in″ f) (fill-second (v .value) small)))))
-            (λ w ok3 is3.
-              ways (leb (v .value) (w .value)) _ _ (Err x) is3
-              (λ u f. absurd (no-refusal _ x f))
-              (λ u f. here MemberThen s a x in′ (ap placeOf (sym (err-same _ x f)) ∙ place) fill-member)))
-          (λ t f. absurd (no-refusal _ x f)))
+        let (number, small, place) = number-sound s a 255 v ok in
+        ways (isMark Colon s (v .end)) _ _ (Err x) is1
+        (λ t is2.
+        let colon : MarkText Colon s (v .end) (v .end + 1) = record { stands = t; behind = refl } in
+        let w = mark-inside Colon s (v .end) t in
+        let in″ : v .end + 1 ≤ length s = omega arith in
+        faults (numberAt 255 s (v .end + 1)) _ x is2
+        (λ f. as-part First MemberThen s a x (λ t (v, b, number, few, (c, colon, (w, d, number′, (le, small), rest))). (d, range v w, pair number colon number′ le small, rest))
+        (number-begins (λ v. v ≤ 255) (λ v. MarkThen Colon (Second v)) s a (v .end) (v .value) x number small (mark-then-stops Colon (Second (v .value)))
+        (mark-begins Colon (Second (v .value)) s (v .end) (v .end + 1) x colon (here (Second (v .value)) s (v .end + 1) x in″ (number-place 255 s (v .end + 1) x in″ f) (fill-second (v .value) small)))))
+        (λ w ok3 is3.
+        ways (leb (v .value) (w .value)) _ _ (Err x) is3
+        (λ u f. absurd (no-refusal _ x f))
+        (λ u f. here MemberThen s a x in′ (ap placeOf (sym (err-same _ x f)) ∙ place) fill-member)))
+        (λ t f. absurd (no-refusal _ x f)))
 
     member-begins : (a b : ℕ) (f : ℕ → Bool) → MemberText s a b f → Begins T s b x → Begins MemberThen s a x
     member-begins a b f member (on, in′, (r, rest)) =
@@ -170,19 +165,19 @@ module _ (shut : Mark) where
       faults (memberAt s a) _ x is
       (λ f. member-fault Tail fill-tail tail-stops s x a in′ f)
       (λ m ok is1.
-        let member = member-sound s a m ok in
-        let w = member-inside s a (m .end) (covers m) member in
-        let far = member-far s a (m .end) (covers m) member in
-        member-begins Tail fill-tail tail-stops s x a (m .end) (covers m) member
-        (ways (isMark shut s (m .end)) _ _ (Err x) is1
-        (λ t f. absurd (no-refusal _ x f))
-        (λ t is2. faults (takeMark Slot Space s (m .end)) _ x is2
-        (λ f. here Tail s (m .end) x far (mark-place Slot Space s (m .end) x far f) fill-tail)
-        (λ e space is3.
-          let o = mark-within Slot Space s (m .end) e space in
-          faults (membersFrom n shut s e) _ x is3
-          (λ f. as-part (MarkThen Space Members) Tail s (m .end) x (λ t text. inr text) (mark-begins Space Members s (m .end) e x (mark-sound s (m .end) Slot Space e space) (members-fault s x n e (o .1) (omega arith) f)))
-          (λ r ok4 f. absurd (no-refusal _ x f)))))))
+      let member = member-sound s a m ok in
+      let w = member-inside s a (m .end) (covers m) member in
+      let far = member-far s a (m .end) (covers m) member in
+      member-begins Tail fill-tail tail-stops s x a (m .end) (covers m) member
+      (ways (isMark shut s (m .end)) _ _ (Err x) is1
+      (λ t f. absurd (no-refusal _ x f))
+      (λ t is2. faults (takeMark Slot Space s (m .end)) _ x is2
+      (λ f. here Tail s (m .end) x far (mark-place Slot Space s (m .end) x far f) fill-tail)
+      (λ e space is3.
+      let o = mark-within Slot Space s (m .end) e space in
+      faults (membersFrom n shut s e) _ x is3
+      (λ f. as-part (MarkThen Space Members) Tail s (m .end) x (λ t text. inr text) (mark-begins Space Members s (m .end) e x (mark-sound s (m .end) Slot Space e space) (members-fault s x n e (o .1) (omega arith) f)))
+      (λ r ok4 f. absurd (no-refusal _ x f)))))))
     where
       member-far : (s : List ℕ) (a b : ℕ) (f : ℕ → Bool) → MemberText s a b f → b ≤ length s
       member-far s a b _ (lone {v = v} number small) = number-inside s a b v number .1
@@ -199,21 +194,21 @@ unfolding membersAt
 slot-fault s a x in′ is =
     ways (isMark ClassOpen s a) _ _ (Err x) is
     (λ t is1.
-      let w = mark-inside ClassOpen s a t in
-      faults (membersAt ClassClose s (a + 1)) _ x is1
-      (λ f. as-part (MarkThen ClassOpen (Members ClassClose)) Event s a x (λ u (b, begin, (f, members)). (f, listed begin members))
-        (mark-begins ClassOpen (Members ClassClose) s a (a + 1) x (record { stands = t; behind = refl }) (members-fault ClassClose s x (suc (length s)) (a + 1) (omega arith) (omega arith) f)))
-      (λ r ok f. absurd (no-refusal _ x f)))
+    let w = mark-inside ClassOpen s a t in
+    faults (membersAt ClassClose s (a + 1)) _ x is1
+    (λ f. as-part (MarkThen ClassOpen (Members ClassClose)) Event s a x (λ u (b, begin, (f, members)). (f, listed begin members))
+    (mark-begins ClassOpen (Members ClassClose) s a (a + 1) x (record { stands = t; behind = refl }) (members-fault ClassClose s x (suc (length s)) (a + 1) (omega arith) (omega arith) f)))
+    (λ r ok f. absurd (no-refusal _ x f)))
     (λ t is1. ways (isMark BarredOpen s a) _ _ (Err x) is1
-      (λ u is2.
-        let w = mark-inside BarredOpen s a u in
-        faults (membersAt BarredClose s (a + 1)) _ x is2
-        (λ f. as-part (MarkThen BarredOpen (Members BarredClose)) Event s a x (λ u (b, begin, (f, members)). (_, barred begin members))
-          (mark-begins BarredOpen (Members BarredClose) s a (a + 1) x (record { stands = u; behind = refl }) (members-fault BarredClose s x (suc (length s)) (a + 1) (omega arith) (omega arith) f)))
-        (λ r ok f. absurd (no-refusal _ x f)))
-      (λ u is2. faults (numberAt 255 s a) _ x is2
-        (λ f. here Event s a x in′ (number-place 255 s a x in′ f) fill-event)
-        (λ n ok f. absurd (no-refusal _ x f))))
+    (λ u is2.
+    let w = mark-inside BarredOpen s a u in
+    faults (membersAt BarredClose s (a + 1)) _ x is2
+    (λ f. as-part (MarkThen BarredOpen (Members BarredClose)) Event s a x (λ u (b, begin, (f, members)). (_, barred begin members))
+    (mark-begins BarredOpen (Members BarredClose) s a (a + 1) x (record { stands = u; behind = refl }) (members-fault BarredClose s x (suc (length s)) (a + 1) (omega arith) (omega arith) f)))
+    (λ r ok f. absurd (no-refusal _ x f)))
+    (λ u is2. faults (numberAt 255 s a) _ x is2
+    (λ f. here Event s a x in′ (number-place 255 s a x in′ f) fill-event)
+    (λ n ok f. absurd (no-refusal _ x f))))
 
 as-slot : (t : List ℕ) (a e : ℕ) → Event t a e → SomeSlot eventAt t a e
 as-slot t a e (f, text) = (f, record { begins = event-starts t a e f text; slot = event-exactly t a e f .1 text })

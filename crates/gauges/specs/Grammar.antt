@@ -1,13 +1,16 @@
 -- The grammar of a slot of event codes: what stands in the text from place a up to place b, and the codes that it stands for.
 use mathlib.Core.Path.{_≡_}
-use mathlib.Core.Bool.{Bool, not, _&&_, _||_}
+use mathlib.Core.Bool.{Bool, false, not, _&&_, _||_}
 use mathlib.Core.Logic.{_↔_}
 use mathlib.Core.List.{List}
-use Prim.Native.Nat.{ℕ, _≤_}
+use Prim.Native.Nat.{ℕ, _≤_, _<_}
 use lib.Dec.{leb, ltb}
+use lib.ListN.{getD}
+use Rattle.std.specs.declared.result.Result.{Result}
 use Rattle.std.specs.declared.result.Result.the-variants.{Ok}
 use Rattle.text.specs.declared.mark.Mark.{Mark}
 use Rattle.text.specs.declared.mark.Mark.the-variants.{ClassOpen, ClassClose, BarredOpen, BarredClose, Colon, Space}
+use Rattle.text.specs.declared.refusal.Refusal.{Refusal}
 use Rattle.text.specs.Grammar.{MarkText, NumberText}
 use Rattle.gauges.specs.Codes.{eventAt}
 
@@ -39,3 +42,8 @@ pub data EventText (s : List ℕ) : ℕ → ℕ → (ℕ → Bool) → Type 0 wh
 -- a slot is read just where the grammar derives it
 abbrev pub Event-exactly : Type 0
 Event-exactly = (s : List ℕ) (a b : ℕ) (f : ℕ → Bool) → eventAt s a ≡ Ok (f, b) ↔ EventText s a b f
+
+-- an answer is the place behind a slot just where the grammar derives that slot; its codes are then in hand
+pub record Reads-slot (s : List ℕ) (a : ℕ) (r : Result ℕ Refusal) (inside : List Bool) : Type 0 where
+  pub derived : (b : ℕ) → r ≡ Ok b ↔ ((f : ℕ → Bool) × EventText s a b f)
+  pub held : (b : ℕ) (f : ℕ → Bool) → EventText s a b f → (c : ℕ) → c < 256 → getD inside c false ≡ f c

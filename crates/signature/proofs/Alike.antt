@@ -1,14 +1,13 @@
 -- The reading of a signature looks at no byte past the place where it is refused.
 use mathlib.Core.Path.{_≡_, refl, sym, ap, subst, _∙_}
-use mathlib.Core.Bool.{Bool, true, false, cond}
-use mathlib.Core.Logic.{_⊎_, inl, inr, ⊎-elim}
-use mathlib.Core.List.{List, [], _∷_}
-use Prim.Native.Nat.{ℕ, zero, suc, _+_, _≤_, _<_}
+use mathlib.Core.Bool.{Bool, true, false}
+use mathlib.Core.Logic.{⊎-elim}
+use mathlib.Core.List.{List}
+use Prim.Native.Nat.{ℕ, zero, suc, _+_, _≤_}
 use native.Mathlib.Omega.{arith}
 use lib.Dec.{leb}
 use lib.ListN.{length, take}
-use Rattle.std.specs.declared.result.Result.{Result}
-use Rattle.std.specs.declared.result.Result.the-variants.{Ok, Err}
+use Rattle.std.specs.declared.result.Result.the-variants.{Err}
 use Rattle.std.proofs.shelf.Lists.{take-take}
 use Rattle.std.proofs.shelf.Tests.{cases-bool}
 use Rattle.std.proofs.shelf.Ways.{tells}
@@ -17,10 +16,11 @@ use Rattle.text.specs.declared.number.Number.{Number}
 use Rattle.text.specs.declared.refusal.Layer.the-variants.{Signature}
 use Rattle.text.specs.declared.refusal.Refusal.{Refusal}
 use Rattle.text.specs.declared.refusal.Refusal.the-variants.{LongText}
-use Rattle.text.specs.Refusals.{_then_, placeOf}
+use Rattle.text.specs.Refusals.{placeOf}
 use Rattle.text.specs.Marks.{isMark}
 use Rattle.text.specs.Places.{AtPlace}
-use Rattle.text.proofs.Local.{Agree, agree, Local, ok-local, err-local, later-local, cond-local, then-local, same-mark, inside, mark-local, number-local, not-long, not-backward, err-same}
+use Rattle.text.proofs.Steps.{err-same}
+use Rattle.text.proofs.Local.{Agree, agree, Local, ok-local, err-local, cond-local, then-local, same-mark, inside, mark-local, number-local, not-long, not-backward}
 use Rattle.signature.specs.declared.join.Join.{Join}
 use Rattle.signature.specs.Slots.{Reads, Within}
 use Rattle.signature.specs.Joins.{gapAt, noGapAt, joinAt}

@@ -1,38 +1,34 @@
 -- A signature's text is read just where the grammar derives it.
 use mathlib.Core.Path.{_≡_, refl, sym, ap, subst, _∙_}
-use mathlib.Core.Bool.{Bool, true, false, cond}
-use mathlib.Core.Logic.{_⊎_, inl, inr, ⊎-elim}
-use mathlib.Core.List.{List, [], _∷_}
-use Prim.Native.Nat.{ℕ, zero, suc, _+_, _≤_, _<_}
+use mathlib.Core.Bool.{Bool, true, false}
+use mathlib.Core.List.{List, _∷_}
+use Prim.Native.Nat.{ℕ, zero, suc, _+_, _≤_}
 use native.Mathlib.Omega.{arith}
-use lib.Dec.{eqb, leb}
-use lib.ListN.{length, getD}
+use lib.Dec.{leb}
+use lib.ListN.{length}
 use Rattle.std.specs.declared.result.Result.{Result}
 use Rattle.std.specs.declared.result.Result.the-variants.{Ok, Err}
-use Rattle.std.proofs.shelf.Tests.{cases-bool}
 use Rattle.std.proofs.shelf.Ways.{tells}
 use Rattle.text.specs.declared.mark.Mark.the-variants.{Dash, Gap as Cross, Open, Comma, Close}
-use Rattle.text.specs.declared.number.Number.{Number}
 use Rattle.text.specs.declared.refusal.Layer.the-variants.{Signature}
 use Rattle.text.specs.declared.refusal.Refusal.{Refusal}
-use Rattle.text.specs.Refusals.{_then_}
 use Rattle.text.specs.Numbers.{numberAt}
 use Rattle.text.specs.Marks.{isMark, takeMark}
-use Rattle.text.specs.Grammar.{MarkText, NumberText}
+use Rattle.text.specs.Grammar.{MarkText}
+use Rattle.text.proofs.Steps.{ok-same, both, ways}
 use Rattle.text.proofs.Bounds.{mark-inside}
-use Rattle.text.proofs.Derived.{both, either, ok-same, mark-sound, mark-complete, number-sound, number-complete}
+use Rattle.text.proofs.Derived.{mark-sound, mark-complete, number-sound, number-complete}
 use Rattle.runs.specs.declared.gap.Gap.{Gap}
 use Rattle.runs.specs.declared.signature.Signature.{Signature as Shape}
-use Rattle.runs.specs.Gaps.{noGap}
 use Rattle.signature.specs.declared.join.Join.{Join}
 use Rattle.signature.specs.Slots.{Reads, Within}
 use Rattle.signature.specs.Joins.{gapAt, noGapAt, joinAt}
 use Rattle.signature.specs.Outcomes.{Plan, restAt, slotsAt, signatureAt, Left, answer}
-use Rattle.signature.specs.Grammar.{JoinText, none, gap, SlotText, RestText, end, more, SignatureText, slots, One-plan, Derives, Reads-exactly, Answers}
+use Rattle.signature.specs.Grammar.{JoinText, none, gap, RestText, end, more, SignatureText, slots, One-plan, Reads-exactly, Answers}
 
 pub no-gap-sound : (s : List ℕ) (a b : ℕ) → noGapAt s a ≡ Ok b → (isMark Cross s a ≡ false) × (a ≡ b)
 no-gap-sound s a b is =
-    either (isMark Cross s a) _ _ b is
+    ways (isMark Cross s a) _ _ (Ok b) is
     (λ t f. absurd (let z : _≡_ {A = ℕ} 0 1 = cc in omega arith))
     (λ t f. (t, ok-same _ _ f))
 
@@ -47,26 +43,26 @@ gap-sound s a j is =
     let (lo, low, is3) = both (numberAt 63 s c) _ j is2 in
     let (e, comma, is4) = both (takeMark Signature Comma s (lo .end)) _ j is3 in
     let (hi, high, is5) = both (numberAt 63 s e) _ j is4 in
-    either (leb (lo .value) (hi .value)) _ _ j is5
+    ways (leb (lo .value) (hi .value)) _ _ (Ok j) is5
     (λ t is6.
-      let (g, close, out) = both (takeMark Signature Close s (hi .end)) _ j is6 in
-      let high′ = number-sound s e 63 hi high in
-      let le : lo .value ≤ hi .value = grind (arith, tells) in
-      subst (GapText s a) (ok-same _ _ out) (λ h dash.
-      gap (mark-sound s a Signature Cross b cross) (mark-sound s b Signature Open c opened) (number-sound s c 63 lo low .0) (mark-sound s (lo .end) Signature Comma e comma) (high′ .0)
-      (mark-sound s (hi .end) Signature Close g close) dash le (high′ .1)))
+    let (g, close, out) = both (takeMark Signature Close s (hi .end)) _ j is6 in
+    let high′ = number-sound s e 63 hi high in
+    let le : lo .value ≤ hi .value = grind (arith, tells) in
+    subst (GapText s a) (ok-same _ _ out) (λ h dash.
+    gap (mark-sound s a Signature Cross b cross) (mark-sound s b Signature Open c opened) (number-sound s c 63 lo low .0) (mark-sound s (lo .end) Signature Comma e comma) (high′ .0)
+    (mark-sound s (hi .end) Signature Close g close) dash le (high′ .1)))
     (λ t f. absurd (let z : _≡_ {A = ℕ} 0 1 = cc in omega arith))
 
 pub join-sound : (s : List ℕ) (a : ℕ) (j : Join) → joinAt s a ≡ Ok j → JoinText s a (j .end) (j .gap) × (isMark Cross s (j .end) ≡ false)
 join-sound s a j is =
-    either (isMark Cross s a) _ _ j is
+    ways (isMark Cross s a) _ _ (Ok j) is
     (λ t is1.
-      let (g, gap′, is2) = both (gapAt s a) _ j is1 in
-      let (h, dash, is3) = both (takeMark Signature Dash s (g .end)) _ j is2 in
-      let (p, clear, out) = both (noGapAt s h) _ j is3 in
-      let (free, same) = no-gap-sound s h p clear in
-      let here = subst (λ i. JoinText s a i (g .gap) × (isMark Cross s i ≡ false)) same (gap-sound s a g gap′ h (mark-sound s (g .end) Signature Dash h dash), free) in
-      subst (λ j. JoinText s a (j .end) (j .gap) × (isMark Cross s (j .end) ≡ false)) (ok-same _ _ out) here)
+    let (g, gap′, is2) = both (gapAt s a) _ j is1 in
+    let (h, dash, is3) = both (takeMark Signature Dash s (g .end)) _ j is2 in
+    let (p, clear, out) = both (noGapAt s h) _ j is3 in
+    let (free, same) = no-gap-sound s h p clear in
+    let here = subst (λ i. JoinText s a i (g .gap) × (isMark Cross s i ≡ false)) same (gap-sound s a g gap′ h (mark-sound s (g .end) Signature Dash h dash), free) in
+    subst (λ j. JoinText s a (j .end) (j .gap) × (isMark Cross s (j .end) ≡ false)) (ok-same _ _ out) here)
     (λ t out. subst (λ j. JoinText s a (j .end) (j .gap) × (isMark Cross s (j .end) ≡ false)) (ok-same _ _ out) (none, t))
 
 join-complete : (s : List ℕ) (a b : ℕ) (g : Gap) → JoinText s a b g → isMark Cross s b ≡ false → joinAt s a ≡ Ok (record { gap = g; end = b })
@@ -75,28 +71,35 @@ join-complete s a h _ (gap {b = b} {c = c} {d = d} {e = e} {f = f} {g = g} {lo =
     let t : leb lo hi ≡ true = grind (arith, tells) in
     let second : takeMark Signature Open s (a + 1) ≡ Ok c = ap (takeMark Signature Open s) (sym (cross .behind)) ∙ mark-complete s b Signature Open c opened in
     rw (
-      cross .stands, second, number-complete s c 63 d lo low (omega arith),
-      mark-complete s d Signature Comma e comma, number-complete s e 63 f hi high small, t, mark-complete s f Signature Close g close, mark-complete s g Signature Dash h dash, free
+      cross .stands,
+      second,
+      number-complete s c 63 d lo low (omega arith),
+      mark-complete s d Signature Comma e comma,
+      number-complete s e 63 f hi high small,
+      t,
+      mark-complete s f Signature Close g close,
+      mark-complete s g Signature Dash h dash,
+      free,
     ) refl
 
 module _ {R : Type 0} (reads : Reads R) (s : List ℕ) where
   rest-sound : Within reads → (n a : ℕ) (p : Plan R) → a ≤ length s → restAt reads n s a ≡ Ok p → RestText reads s a p × (length (p .sets) ≤ n)
   rest-sound within zero a p in′ is =
-      either (leb (length s) a) _ _ p is
+      ways (leb (length s) a) _ _ (Ok p) is
       (λ t out. subst (λ p. RestText reads s a p × (length (p .sets) ≤ 0)) (ok-same _ _ out) (end (grind (arith, tells)), omega arith))
       (λ t f. let (b, dash, out) = both (takeMark Signature Dash s a) _ p f in absurd (let z : _≡_ {A = ℕ} 0 1 = cc in omega arith))
   rest-sound within (suc n) a p in′ is =
-      either (leb (length s) a) _ _ p is
+      ways (leb (length s) a) _ _ (Ok p) is
       (λ t out. subst (λ p. RestText reads s a p × (length (p .sets) ≤ suc n)) (ok-same _ _ out) (end (grind (arith, tells)), omega arith))
       (λ t f.
-        let (b, dash, is1) = both (takeMark Signature Dash s a) _ p f in
-        let (j, join, is2) = both (joinAt s b) _ p is1 in
-        let (v, slot, is3) = both (reads s (j .end)) _ p is2 in
-        let (q, rest, out) = both (restAt reads n s (v .1)) _ p is3 in
-        let (between, free) = join-sound s b j join in
-        let (onward, few) = rest-sound within n (v .1) q (within s (j .end) (v .0) (v .1) slot .1) rest in
-        subst (λ p. RestText reads s a p × (length (p .sets) ≤ suc n)) (ok-same _ _ out)
-        (more (mark-sound s a Signature Dash b dash) between (record { begins = free; slot = slot }) onward, omega arith))
+      let (b, dash, is1) = both (takeMark Signature Dash s a) _ p f in
+      let (j, join, is2) = both (joinAt s b) _ p is1 in
+      let (v, slot, is3) = both (reads s (j .end)) _ p is2 in
+      let (q, rest, out) = both (restAt reads n s (v .1)) _ p is3 in
+      let (between, free) = join-sound s b j join in
+      let (onward, few) = rest-sound within n (v .1) q (within s (j .end) (v .0) (v .1) slot .1) rest in
+      subst (λ p. RestText reads s a p × (length (p .sets) ≤ suc n)) (ok-same _ _ out)
+      (more (mark-sound s a Signature Dash b dash) between (record { begins = free; slot = slot }) onward, omega arith))
 
   rest-complete : (n a : ℕ) (p : Plan R) → RestText reads s a p → length (p .sets) ≤ n → restAt reads n s a ≡ Ok p
   rest-complete zero a _ (end is) few = let t : leb (length s) a ≡ true = grind (arith, tells) in rw t refl
@@ -124,9 +127,9 @@ module _ {R : Type 0} (reads : Reads R) (s : List ℕ) where
   unfolding signatureAt
   reads-exactly within p = (
     (λ is.
-      either (leb (length s) 4096) _ _ p is
-      (λ t f. let (few, text) = slots-sound within p f in (grind (arith, tells), few, text))
-      (λ t f. absurd (let z : _≡_ {A = ℕ} 0 1 = cc in omega arith))),
+        ways (leb (length s) 4096) _ _ (Ok p) is
+        (λ t f. let (few, text) = slots-sound within p f in (grind (arith, tells), few, text))
+        (λ t f. absurd (let z : _≡_ {A = ℕ} 0 1 = cc in omega arith))),
     (λ (short, few, text). let t : leb (length s) 4096 ≡ true = grind (arith, tells) in rw t (slots-complete p few text)),
   )
 

@@ -79,6 +79,14 @@ fn read_slots<G: WrittenGauge>(
 
 /// Reads the text of a signature: its slots into the gauge, their number and the gaps into `signature`.
 /// After a refusal every slot is empty and the signature has none.
+///
+/// - `grammar`: a text is read as a plan exactly where the grammar derives that plan, within 4,096 bytes and 32 slots.
+/// - `one`: the grammar derives at most one plan from a text.
+/// - `alike`: over a gauge that looks no further than a slot's end, a text that is refused for want of a digit or a mark,
+///   for a stray gap or a slot too many is refused whatever stands behind the refusal's place.
+/// - `begins`: over a gauge whose refused slots can go on to some slot, the bytes before any refusal's place begin some
+///   text of the grammar: nothing before that place is at fault.
+/// - `answers`: the answer is no refusal exactly where the grammar derives a plan, and then that plan is in hand.
 pub fn read_signature<G: WrittenGauge>(
     gauge: &mut G,
     signature: &mut Signature,

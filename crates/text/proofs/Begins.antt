@@ -1,19 +1,17 @@
 -- Where one part after another is read and the text is refused, the bytes before the refusal's place begin some such parts.
 use mathlib.Core.Path.{_≡_, refl, sym, ap, subst, _∙_}
-use mathlib.Core.Bool.{Bool, true, false, cond}
-use mathlib.Core.Logic.{_⊎_, inl, inr, ⊎-elim}
+use mathlib.Core.Bool.{true, false}
+use mathlib.Core.Logic.{⊎-elim}
 use mathlib.Core.List.{List, [], _∷_, _++_, append-assoc, append-nil}
-use Prim.Native.Nat.{ℕ, zero, suc, _+_, _-_, _≤_, _<_, min}
+use Prim.Native.Nat.{ℕ, _+_, _-_, _≤_, _<_}
 use native.Mathlib.Omega.{arith}
 use lib.Dec.{eqb}
 use lib.ListN.{length, getD, take, drop, length-append}
 use lib.Seq.{length-take-le, getD-take}
-use Rattle.std.specs.declared.result.Result.{Result}
-use Rattle.std.specs.declared.result.Result.the-variants.{Ok, Err}
+use Rattle.std.specs.declared.result.Result.the-variants.{Err}
 use Rattle.std.proofs.shelf.Lists.{drop-take, take-take, take-append-le, take-at, drop-at, getD-append-add, getD-append-left, getD-append-right, getD-past}
 use Rattle.std.proofs.shelf.Tests.{eq-eqb, eqb-true}
 use Rattle.text.specs.declared.mark.Mark.{Mark}
-use Rattle.text.specs.declared.number.Number.{Number}
 use Rattle.text.specs.declared.refusal.Layer.{Layer}
 use Rattle.text.specs.declared.refusal.Refusal.{Refusal}
 use Rattle.text.specs.declared.refusal.Refusal.the-variants.{NoMark}
@@ -23,9 +21,9 @@ use Rattle.text.specs.Numbers.{valueOf, numberAt}
 use Rattle.text.specs.Marks.{codeOf, isMark, takeMark}
 use Rattle.text.specs.Grammar.{MarkText, NumberText}
 use Rattle.text.specs.Places.{Begins}
+use Rattle.text.proofs.Steps.{err-same, ways}
 use Rattle.text.proofs.Marks.{mark-no-digit}
 use Rattle.text.proofs.Derived.{number-refused}
-use Rattle.text.proofs.Local.{err-same}
 
 abbrev pub Part : Type 1
 Part = List ℕ → ℕ → ℕ → Type 0
@@ -49,19 +47,6 @@ NumberThen K T t a e = (v : ℕ) × (b : ℕ) × NumberText t a b v × K v × T 
 -- the end of the text
 abbrev pub Ended : Part
 Ended t a e = (a ≡ e) × (a ≡ length t)
-
--- which way a test went
-pub ways : {A P : Type 0} (t : Bool) (x y z : A) → cond t x y ≡ z → (t ≡ true → x ≡ z → P) → (t ≡ false → y ≡ z → P) → P
-ways true x y z is yes′ no′ = yes′ refl is
-ways false x y z is yes′ no′ = no′ refl is
-
--- one reading after another is refused at the first, or behind it
-pub faults : {A B P : Type 0} (r : Result A Refusal) (f : A → Result B Refusal) (x : Refusal) → (r then f) ≡ Err x → (r ≡ Err x → P) → ((a : A) → r ≡ Ok a → f a ≡ Err x → P) → P
-faults (Ok a) f x is first next = next a refl is
-faults (Err y) f x is first next = first (ap Err (err-same y x is))
-
-pub no-refusal : {A : Type 0} (a : A) (x : Refusal) → _≡_ {A = Result A Refusal} (Ok a) (Err x) → ⊥
-no-refusal a x is = let z : _≡_ {A = ℕ} 0 1 = cc in omega arith
 
 -- a part of one kind is one of another
 pub as-part : (T U : Part) (s : List ℕ) (a : ℕ) (x : Refusal) → ((t : List ℕ) → T t a (length t) → U t a (length t)) → Begins T s a x → Begins U s a x

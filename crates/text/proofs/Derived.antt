@@ -1,16 +1,15 @@
 -- Marks and numbers are read just where the grammar has them.
-use mathlib.Core.Path.{_≡_, refl, sym, ap, subst, _∙_}
-use mathlib.Core.Bool.{Bool, true, false, cond}
+use mathlib.Core.Path.{_≡_, refl, sym, ap, _∙_}
+use mathlib.Core.Bool.{Bool, true, false}
 use mathlib.Core.Logic.{_⊎_, inl, inr, ⊎-elim}
 use mathlib.Core.List.{List, [], _∷_}
 use Prim.Native.Nat.{ℕ, zero, suc, _+_, _-_, _≤_, _<_}
 use native.Mathlib.Numerals.{one-add}
 use native.Mathlib.Omega.{arith}
-use lib.Dec.{eqb, leb}
-use lib.ListN.{length, getD, take, drop}
+use lib.Dec.{eqb}
+use lib.ListN.{getD, drop}
 use lib.Seq.{getD-drop}
 use Rattle.std.specs.shelf.Lists.{leading}
-use Rattle.std.specs.declared.result.Result.{Result}
 use Rattle.std.specs.declared.result.Result.the-variants.{Ok, Err}
 use Rattle.std.proofs.shelf.Tests.{cases-bool}
 use Rattle.std.proofs.shelf.Ways.{tells}
@@ -19,31 +18,12 @@ use Rattle.text.specs.declared.number.Number.{Number}
 use Rattle.text.specs.declared.refusal.Layer.{Layer}
 use Rattle.text.specs.declared.refusal.Refusal.{Refusal}
 use Rattle.text.specs.declared.refusal.Refusal.the-variants.{NoDigit, OutOfRange}
-use Rattle.text.specs.Refusals.{_then_}
 use Rattle.text.specs.Words.{isDigit, digitsAt, placeIn}
 use Rattle.text.specs.Numbers.{valueOf, numberAt}
 use Rattle.text.specs.Marks.{codeOf, isMark, takeMark}
 use Rattle.text.specs.Grammar.{MarkText, NumberText}
 use Rattle.text.proofs.Digits.{front-passes}
 use Rattle.text.proofs.Marks.{mark-no-digit}
-
--- what came of one reading after another came of each
-pub both : {A B : Type 0} (r : Result A Refusal) (f : A → Result B Refusal) (b : B) → (r then f) ≡ Ok b → (a : A) × (r ≡ Ok a) × (f a ≡ Ok b)
-both (Ok a) f b is = (a, refl, is)
-both (Err e) f b is = absurd (let z : _≡_ {A = ℕ} 0 1 = cc in omega arith)
-
--- what follows matters only at what was read
-pub then-same : {A B : Type 0} (r : Result A Refusal) (f g : A → Result B Refusal) → ((a : A) → r ≡ Ok a → f a ≡ g a) → (r then f) ≡ (r then g)
-then-same (Ok a) f g same = same a refl
-then-same (Err e) f g same = refl
-
-pub ok-same : {A : Type 0} (a b : A) → _≡_ {A = Result A Refusal} (Ok a) (Ok b) → a ≡ b
-ok-same a b is = cc
-
--- one of two ways
-pub either : {A P : Type 0} (t : Bool) (x y : Result A Refusal) (a : A) → cond t x y ≡ Ok a → (t ≡ true → x ≡ Ok a → P) → (t ≡ false → y ≡ Ok a → P) → P
-either true x y a is yes′ no′ = yes′ refl is
-either false x y a is yes′ no′ = no′ refl is
 
 -- what ends the longest front that passes does not pass
 leading-stops : (p : ℕ → Bool) (xs : List ℕ) → p 0 ≡ false → p (getD xs (leading p xs) 0) ≡ false
@@ -76,23 +56,26 @@ module _ (s : List ℕ) (a : ℕ) where
   number-sound limit n is =
       let k = leading isDigit (drop a s) in
       let told : (n .end ≡ a + leading isDigit (drop a s)) × (n .place ≡ a) × (n .value ≡ valueOf (digitsAt s a)) × (n .value ≤ limit) × (0 < leading isDigit (drop a s)) = grind (arith, tells) in
-      let far : n .end - a ≡ leading isDigit (drop a s) = omega arith in
-      (record {
-        some = omega arith;
-        digits = λ j l m.
-            let at : a + (j - a) ≡ j = omega arith in
-            ap (λ i. isDigit (getD s i 0)) (sym at) ∙ ap isDigit (sym (getD-drop a s (j - a) 0)) ∙ front-passes isDigit (drop a s) (j - a) (omega arith);
-        stops = ap (λ i. isDigit (getD s i 0)) (told .0) ∙ ap isDigit (sym (getD-drop a s k 0)) ∙ leading-stops isDigit (drop a s) refl;
-        value = rw far (sym (told .2));
-      }, told .3, told .1)
+      let far : n .end - a ≡ leading isDigit (drop a s) = omega arith in (
+        record {
+          some = omega arith;
+          digits = λ j l m.
+              let at : a + (j - a) ≡ j = omega arith in
+              ap (λ i. isDigit (getD s i 0)) (sym at) ∙ ap isDigit (sym (getD-drop a s (j - a) 0)) ∙ front-passes isDigit (drop a s) (j - a) (omega arith);
+          stops = ap (λ i. isDigit (getD s i 0)) (told .0) ∙ ap isDigit (sym (getD-drop a s k 0)) ∙ leading-stops isDigit (drop a s) refl;
+          value = rw far (sym (told .2));
+        },
+        told .3,
+        told .1,
+      )
 
   pub number-complete : (limit b v : ℕ) → NumberText s a b v → v ≤ limit → numberAt limit s a ≡ Ok (record { value = v; place = a; end = b })
   number-complete limit b v t few =
       let some = t .some in
       let on : a + (b - a) ≡ b = omega arith in
       let run : leading isDigit (drop a s) ≡ b - a = leading-is isDigit (drop a s) (b - a) refl
-          (λ k l. ap isDigit (getD-drop a s k 0) ∙ t .digits (a + k) (omega arith) (omega arith))
-          (ap isDigit (getD-drop a s (b - a) 0) ∙ ap (λ i. isDigit (getD s i 0)) on ∙ t .stops) in
+      (λ k l. ap isDigit (getD-drop a s k 0) ∙ t .digits (a + k) (omega arith) (omega arith))
+      (ap isDigit (getD-drop a s (b - a) 0) ∙ ap (λ i. isDigit (getD s i 0)) on ∙ t .stops) in
       let value : valueOf (digitsAt s a) ≡ v = rw run (t .value) in
       grind (arith, tells)
 
@@ -107,10 +90,10 @@ module _ (s : List ℕ) (a : ℕ) where
   number-refused limit x is =
       ⊎-elim
       (λ (t : isDigit (getD s a 0) ≡ true). inr (
-        let here : a + 0 ≡ a = omega arith in
-        let first : isDigit (getD (drop a s) 0 0) ≡ true = ap isDigit (getD-drop a s 0 0) ∙ ap (λ i. isDigit (getD s i 0)) here ∙ t in
-        let some : leading isDigit (drop a s) ≡ 0 → ⊥ = λ z. let stop = leading-stops isDigit (drop a s) refl in let w : _≡_ {A = ℕ} 0 1 = grind (arith, tells) in omega arith in
-        grind (arith, tells)))
+      let here : a + 0 ≡ a = omega arith in
+      let first : isDigit (getD (drop a s) 0 0) ≡ true = ap isDigit (getD-drop a s 0 0) ∙ ap (λ i. isDigit (getD s i 0)) here ∙ t in
+      let some : leading isDigit (drop a s) ≡ 0 → ⊥ = λ z. let stop = leading-stops isDigit (drop a s) refl in let w : _≡_ {A = ℕ} 0 1 = grind (arith, tells) in omega arith in
+      grind (arith, tells)))
       (λ (f : isDigit (getD s a 0) ≡ false). inl (f, let is′ = number-none limit f in cc))
       (cases-bool (isDigit (getD s a 0)))
 

@@ -2,20 +2,17 @@
 use mathlib.Core.Path.{_≡_, refl, sym, ap, subst, _∙_}
 use mathlib.Core.Bool.{Bool, true, false, cond, _||_}
 use mathlib.Core.Logic.{_⊎_, inl, inr, ⊎-elim}
-use mathlib.Core.List.{List, [], _∷_}
-use Prim.Native.Nat.{ℕ, zero, suc, _+_, _-_, _≤_, _<_, min}
+use mathlib.Core.List.{List}
+use Prim.Native.Nat.{ℕ, _+_, _-_, _≤_, _<_, min}
 use native.Mathlib.Omega.{arith}
-use lib.Dec.{eqb, leb}
+use lib.Dec.{eqb}
 use lib.ListN.{length, getD, take, drop, length-take}
-use lib.Seq.{getD-take, getD-drop, take-all}
-use Rattle.std.specs.shelf.Lists.{leading}
+use lib.Seq.{getD-take, take-all}
 use Rattle.std.specs.declared.result.Result.{Result}
 use Rattle.std.specs.declared.result.Result.the-variants.{Ok, Err}
 use Rattle.std.proofs.shelf.Lists.{drop-take, take-take}
 use Rattle.std.proofs.shelf.Tests.{cases-lt}
-use Rattle.std.proofs.shelf.Ways.{tells}
 use Rattle.text.specs.declared.mark.Mark.{Mark}
-use Rattle.text.specs.declared.number.Number.{Number}
 use Rattle.text.specs.declared.refusal.Layer.{Layer}
 use Rattle.text.specs.declared.refusal.Refusal.{Refusal}
 use Rattle.text.specs.declared.refusal.Refusal.the-variants.{LongText, NoDigit, NoMark, OutOfRange, Backward}
@@ -23,9 +20,10 @@ use Rattle.text.specs.Refusals.{_then_, numberOf, placeOf}
 use Rattle.text.specs.Words.{isDigit, placeIn}
 use Rattle.text.specs.Numbers.{valueOf, numberAt}
 use Rattle.text.specs.Marks.{codeOf, isMark, takeMark}
-use Rattle.text.specs.Grammar.{MarkText, NumberText}
+use Rattle.text.specs.Grammar.{NumberText}
 use Rattle.text.specs.Places.{AtPlace, digit, mark, slot, gap}
-use Rattle.text.proofs.Derived.{both, number-sound, number-complete, number-none, number-refused}
+use Rattle.text.proofs.Steps.{err-same, both, faults}
+use Rattle.text.proofs.Derived.{number-sound, number-complete, number-none, number-refused}
 
 abbrev counted : ℕ → Bool
 counted n = eqb n 2 || (eqb n 4 || (eqb n 6 || eqb n 7))
@@ -67,9 +65,6 @@ pub record Local {A : Type 0} (p a : ℕ) (r u : Result A Refusal) (end : A → 
   pub ok : (v : A) → r ≡ Ok v → end v ≤ p → (a ≤ p) × (u ≡ Ok v)
   pub err : (x : Refusal) → r ≡ Err x → AtPlace x → placeOf x ≤ p → (a ≤ p) × (u ≡ Err x)
 
-pub err-same : {A : Type 0} (x y : Refusal) → _≡_ {A = Result A Refusal} (Err x) (Err y) → x ≡ y
-err-same x y is = cc
-
 module _ {A : Type 0} (p a : ℕ) (end : A → ℕ) where
   pub ok-local : (v : A) → (end v ≤ p → a ≤ p) → Local p a (Ok v) (Ok v) end
   ok-local v on = record {
@@ -103,10 +98,6 @@ module _ {A : Type 0} (p a : ℕ) (end : A → ℕ) where
     err = λ v is at l. let told = no′ refl .err v is at l in (told .0, rw (sym (same (told .0))) (told .1));
   }
 
-pub both-err : {A B : Type 0} (r : Result A Refusal) (f : A → Result B Refusal) (x : Refusal) → (r then f) ≡ Err x → (r ≡ Err x) ⊎ ((a : A) × (r ≡ Ok a) × (f a ≡ Err x))
-both-err (Ok a) f x is = inr (a, refl, is)
-both-err (Err y) f x is = inl (ap Err (err-same y x is))
-
 pub then-local : {A B : Type 0} (p a : ℕ) (end : A → ℕ) (last : B → ℕ) (r u : Result A Refusal) (f g : A → Result B Refusal)
     → Local p a r u end → ((v : A) → r ≡ Ok v → Local p (end v) (f v) (g v) last) → Local p a (r then f) (u then g) last
 then-local {A} {B} p a end last r u f g first next = record {
@@ -116,13 +107,12 @@ then-local {A} {B} p a end last r u f g first next = record {
       let told = first .ok v one (on .0) in
       (told .0, rw (told .1) (on .1));
   err = λ x is at l.
-      ⊎-elim
-      (λ (one : r ≡ Err x). let told = first .err x one at l in (told .0, rw (told .1) refl))
-      (λ (h : (v : A) × (r ≡ Ok v) × (f v ≡ Err x)).
-        let on = next (h .0) (h .1) .err x (h .2) at l in
-        let told = first .ok (h .0) (h .1) (on .0) in
-        (told .0, rw (told .1) (on .1)))
-      (both-err r f x is);
+      faults r f x is
+      (λ one. let told = first .err x one at l in (told .0, rw (told .1) refl))
+      (λ v one two.
+      let on = next v one .err x two at l in
+      let told = first .ok v one (on .0) in
+      (told .0, rw (told .1) (on .1)));
 }
 
 module _ (s t : List ℕ) (p : ℕ) (h : Agree s t p) where
@@ -171,8 +161,8 @@ module _ (s t : List ℕ) (p : ℕ) (h : Agree s t p) where
       go x is at l =
           ⊎-elim
           (λ (w : (isDigit (getD s a 0) ≡ false) × (x ≡ NoDigit (placeIn s a))).
-            let (le, one, two) = inside a (subst (λ z. placeOf z ≤ p) (w .1) l) in
-            let stop : isDigit (getD t a 0) ≡ false = ap isDigit (sym (same-byte a le)) ∙ w .0 in
-            (le, number-none t a limit stop ∙ ap (λ k. Err (NoDigit k)) (two ∙ sym one) ∙ ap Err (sym (w .1))))
+          let (le, one, two) = inside a (subst (λ z. placeOf z ≤ p) (w .1) l) in
+          let stop : isDigit (getD t a 0) ≡ false = ap isDigit (sym (same-byte a le)) ∙ w .0 in
+          (le, number-none t a limit stop ∙ ap (λ k. Err (NoDigit k)) (two ∙ sym one) ∙ ap Err (sym (w .1))))
           (λ (w : x ≡ OutOfRange a). absurd (not-range a (subst AtPlace w at)))
           (number-refused s a limit x is)
