@@ -24,7 +24,7 @@ pub data MemberText (s : List ℕ) : ℕ → ℕ → (ℕ → Bool) → Type 0 w
   -- `7:9`
   pair : {a b c d v w : ℕ} → NumberText s a b v → MarkText Colon s b c → NumberText s c d w → v ≤ w → w ≤ 255 → MemberText s a d (range v w)
 
--- members up to the closing mark, with it
+-- members, one space between two, and the closing mark
 pub data MembersText (shut : Mark) (s : List ℕ) : ℕ → ℕ → (ℕ → Bool) → Type 0 where
   -- `7:9]`
   last : {a b c : ℕ} {f : ℕ → Bool} → MemberText s a b f → MarkText shut s b c → MembersText shut s a c f

@@ -21,7 +21,7 @@ use Rattle.signature.specs.Outcomes.{Plan, signatureAt, Left}
 pub data JoinText (s : List ℕ) : ℕ → ℕ → Gap → Type 0 where
   -- nothing: the gap is 0 to 0
   none : {a : ℕ} → JoinText s a a noGap
-  -- `x(lo,hi)-`
+  -- `x(lo,hi)-`: lo at most hi, and hi at most 63
   gap : {a b c d e f g h lo hi : ℕ} → MarkText Cross s a b → MarkText Open s b c → NumberText s c d lo → MarkText Comma s d e → NumberText s e f hi
       → MarkText Close s f g → MarkText Dash s g h → lo ≤ hi → hi ≤ 63 → JoinText s a h (record { lo = lo; hi = hi })
 

@@ -37,6 +37,6 @@ module _ {R : Type 0} (reads : Reads R) where
     pub stays : (s t : List ℕ) (a b : ℕ) (set : R → Bool) → SlotText reads s a b set → take b t ≡ take b s → isDigit (getD t b 0) ≡ false → SlotText reads t a b set
     pub begins : (s : List ℕ) (a : ℕ) (x : Refusal) → a ≤ length s → isMark Cross s a ≡ false → reads s a ≡ Err x → Begins SomeSlot s a x
 
-  -- a text is refused no later than it has to be: the bytes before the refusal's place begin some text of the grammar
+  -- nothing before a refusal's place is at fault: those bytes begin some text of the grammar, its limits of bytes and slots aside
   abbrev pub Begins-some : List ℕ → Type 0
   Begins-some s = (x : Refusal) → signatureAt reads s ≡ Err x → (x ≡ LongText → ⊥) → (r : List ℕ) × (p : Plan R) × SignatureText reads (take (placeOf x) s ++ r) p
