@@ -3,3 +3,6 @@ pub mod Flips
 pub mod Tables
 pub mod Ends
 pub mod Events
+pub mod Derived
+pub mod Alike
+pub mod Begins

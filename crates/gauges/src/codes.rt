@@ -6,6 +6,7 @@ ghost use lib.ListN.{length, getD};
 ghost use Rattle.std.specs.Vec.{made};
 ghost use Rattle.text.specs.declared.mark.Mark.{Mark};
 ghost use Rattle.gauges.specs.Codes.{memberAt, covers, coversAny, membersAt, slotAt, holds, behind};
+ghost use Rattle.gauges.specs.Grammar.{Reads-slot};
 use text::mark::Mark;
 use text::mark::marked;
 use text::mark::take_mark;
@@ -102,6 +103,7 @@ pub(crate) fn read_codes(text: &[u8], at: usize, inside: &mut [bool]) -> Result<
     requires { ⌜ ((c : ℕ) → getD (now inside) c false ≡ false) ⌝ }
     ensures value { λ r. ⌜ r ≡ behind (slotAt (now (text .entry)) at) ⌝ }
     ensures codes { λ r. ⌜ made (slotAt (now (text .entry)) at) (λ v. (c : ℕ) → c < 256 → getD (now (inside .exit)) c false ≡ holds (v .0) c) ⌝ }
+    ensures grammar { λ r. ⌜ Reads-slot (now (text .entry)) at r (now (inside .exit)) ⌝ }
 {
     match char::from(byte_at(text, at)) {
         '[' => read_members(text, at + 1, Mark::ClassClose, inside),

@@ -1,3 +1,4 @@
 //! The gauges: each says for its kind of reading which slots a reading fits.
 pub mod codes;
 pub mod event;
+pub mod grammar;

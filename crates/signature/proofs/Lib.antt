@@ -1,2 +1,5 @@
 pub mod Written
 pub mod Reading
+pub mod Derived
+pub mod Alike
+pub mod Begins

@@ -6,6 +6,8 @@ ghost use Prim.Native.Nat.{ℕ, _+_, _-_, _≤_, _<_};
 ghost use Rattle.std.specs.Results.{isOk};
 ghost use Rattle.runs.specs.Signatures.{gapsOf, Blank, BlankFrom};
 ghost use Rattle.signature.specs.Outcomes.{slotsAt, signatureAt, Left, answer};
+ghost use Rattle.signature.specs.Grammar.{Reads-exactly, One-plan, Answers};
+ghost use Rattle.signature.specs.Refused.{Looks, Refused-alike, Goes-on, Begins-some};
 use crate::gauge::Gauge;
 use crate::gauge::WrittenGauge;
 use crate::join::read_join;
@@ -77,6 +79,14 @@ fn read_slots<G: WrittenGauge>(
 
 /// Reads the text of a signature: its slots into the gauge, their number and the gaps into `signature`.
 /// After a refusal every slot is empty and the signature has none.
+///
+/// - `grammar`: a text is read as a plan exactly where the grammar derives that plan, within 4,096 bytes and 32 slots.
+/// - `one`: the grammar derives at most one plan from a text.
+/// - `alike`: over a gauge that looks no further than a slot's end, a text that is refused for want of a digit or a mark,
+///   for a stray gap or a slot too many is refused whatever stands behind the refusal's place.
+/// - `begins`: over a gauge whose refused slots can go on to some slot, the bytes before any refusal's place begin some
+///   text of the grammar: nothing before that place is at fault.
+/// - `answers`: the answer is no refusal exactly where the grammar derives a plan, and then that plan is in hand.
 pub fn read_signature<G: WrittenGauge>(
     gauge: &mut G,
     signature: &mut Signature,
@@ -84,6 +94,11 @@ pub fn read_signature<G: WrittenGauge>(
 ) -> Result<(), Refusal>
     ensures value { λ r. ⌜ r ≡ answer (signatureAt (G·WrittenGauge .reads) (now (text .entry))) ⌝ }
     ensures left { λ _. ⌜ Left (signatureAt (G·WrittenGauge .reads) (now (text .entry))) (G·Gauge .sets (now (gauge .exit))) (now (signature .exit)) ⌝ }
+    ensures grammar { λ _. ⌜ Reads-exactly (G·WrittenGauge .reads) (now (text .entry)) ⌝ }
+    ensures one { λ _. ⌜ One-plan (G·WrittenGauge .reads) (now (text .entry)) ⌝ }
+    ensures alike { λ _. ⌜ (Looks (G·WrittenGauge .reads) → Refused-alike (G·WrittenGauge .reads) (now (text .entry))) ⌝ }
+    ensures begins { λ _. ⌜ (Goes-on (G·WrittenGauge .reads) → Begins-some (G·WrittenGauge .reads) (now (text .entry))) ⌝ }
+    ensures answers { λ r. ⌜ Answers (G·WrittenGauge .reads) (now (text .entry)) r (G·Gauge .sets (now (gauge .exit))) (now (signature .exit)) ⌝ }
 {
     clear(gauge, signature);
     if text.len() > LONGEST {
