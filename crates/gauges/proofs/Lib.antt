@@ -3,3 +3,5 @@ pub mod Flips
 pub mod Tables
 pub mod Ends
 pub mod Events
+pub mod Pairs
+pub mod Joined

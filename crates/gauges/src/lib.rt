@@ -1,3 +1,6 @@
 //! The gauges: each says for its kind of reading which slots a reading fits.
+pub mod barring;
+pub mod both;
 pub mod codes;
 pub mod event;
+pub mod pair;

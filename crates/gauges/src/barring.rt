@@ -1,0 +1,47 @@
+//! A layer over two gauges: a slot holds what the left holds and the right does not.
+ghost use mathlib.Core.Path.{_≡_};
+ghost use Rattle.gauges.specs.Pairs.{less, barringAt};
+use crate::pair::write_pair;
+use signature::gauge::Gauge;
+use signature::gauge::WrittenGauge;
+use text::mark::Mark;
+use text::refusal::Refusal;
+
+/// Two gauges of one kind of reading.
+#[derive(Drop)]
+pub struct Barring<L, R> {
+    left: L,
+    right: R,
+}
+
+impl<L, R> Barring<L, R> {
+    /// The layer over two gauges as they are.
+    pub fn new(left: L, right: R) -> Barring<L, R>
+        ensures { λ r. ⌜ (r .left ≡ left) × (r .right ≡ right) ⌝ }
+    {
+        Barring { left, right }
+    }
+}
+
+pub impl<L: Gauge, R: Gauge<Reading = L::Reading>> Gauge for Barring<L, R> as BarringGauge {
+    type Reading = L::Reading;
+
+    ghost sets = { λ g j. less (L·Gauge .sets (g .left) j) (R·Gauge .sets (g .right) j) };
+
+    fn try_reading(&self, reading: &L::Reading) -> u32 {
+        self.left.try_reading(reading) & !self.right.try_reading(reading)
+    }
+
+    fn empty_slot(&mut self, slot: u32) {
+        self.left.empty_slot(slot);
+        self.right.empty_slot(slot);
+    }
+}
+
+pub impl<L: WrittenGauge, R: WrittenGauge<Reading = L::Reading>> WrittenGauge for Barring<L, R> as BarringWrittenGauge {
+    ghost reads = { barringAt (L·WrittenGauge .reads) (R·WrittenGauge .reads) };
+
+    fn write_slot(&mut self, slot: u32, text: &[u8], at: usize) -> Result<usize, Refusal> {
+        write_pair(&mut self.left, &mut self.right, Mark::Bang, slot, text, at)
+    }
+}
