@@ -5,3 +5,4 @@ pub mod Ends
 pub mod Events
 pub mod Pairs
 pub mod Joined
+pub mod Bands

@@ -1,3 +1,4 @@
 pub mod Codes
 pub mod Tables
 pub mod Pairs
+pub mod Currents

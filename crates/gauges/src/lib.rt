@@ -1,6 +1,8 @@
 //! The gauges: each says for its kind of reading which slots a reading fits.
+pub mod band;
 pub mod barring;
 pub mod both;
 pub mod codes;
+pub mod current;
 pub mod event;
 pub mod pair;
