@@ -2,3 +2,4 @@ pub mod Codes
 pub mod Tables
 pub mod Pairs
 pub mod Currents
+pub mod Entries

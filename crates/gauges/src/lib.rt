@@ -4,5 +4,6 @@ pub mod barring;
 pub mod both;
 pub mod codes;
 pub mod current;
+pub mod entry;
 pub mod event;
 pub mod pair;
