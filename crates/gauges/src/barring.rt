@@ -1,6 +1,7 @@
 //! A layer over two gauges: a slot holds what the left holds and the right does not.
 ghost use mathlib.Core.Path.{_≡_};
 ghost use Rattle.gauges.specs.Pairs.{less, barringAt};
+use crate::pair::empty_pair;
 use crate::pair::write_pair;
 use signature::gauge::Gauge;
 use signature::gauge::WrittenGauge;
@@ -14,7 +15,7 @@ pub struct Barring<L, R> {
     right: R,
 }
 
-impl<L, R> Barring<L, R> {
+impl<L: Gauge, R: Gauge<Reading = L::Reading>> Barring<L, R> {
     /// The layer over two gauges as they are.
     pub fn new(left: L, right: R) -> Barring<L, R>
         ensures { λ r. ⌜ (r .left ≡ left) × (r .right ≡ right) ⌝ }
@@ -33,8 +34,7 @@ pub impl<L: Gauge, R: Gauge<Reading = L::Reading>> Gauge for Barring<L, R> as Ba
     }
 
     fn empty_slot(&mut self, slot: u32) {
-        self.left.empty_slot(slot);
-        self.right.empty_slot(slot);
+        empty_pair(&mut self.left, &mut self.right, slot);
     }
 }
 

@@ -1,6 +1,7 @@
 //! The entry gauge: an event code together with a current.
 ghost use mathlib.Core.Path.{_≡_};
 ghost use Rattle.gauges.specs.Entries.{entered, entryAt};
+use crate::pair::empty_pair;
 use crate::pair::write_pair;
 use signature::gauge::Gauge;
 use signature::gauge::WrittenGauge;
@@ -21,7 +22,7 @@ pub struct Entries<E, C> {
     currents: C,
 }
 
-impl<E, C> Entries<E, C> {
+impl<E: Gauge<Reading = u8>, C: Gauge<Reading = i32>> Entries<E, C> {
     /// The gauge over two gauges as they are.
     pub fn new(events: E, currents: C) -> Entries<E, C>
         ensures { λ r. ⌜ (r .events ≡ events) × (r .currents ≡ currents) ⌝ }
@@ -40,8 +41,7 @@ pub impl<E: Gauge<Reading = u8>, C: Gauge<Reading = i32>> Gauge for Entries<E, C
     }
 
     fn empty_slot(&mut self, slot: u32) {
-        self.events.empty_slot(slot);
-        self.currents.empty_slot(slot);
+        empty_pair(&mut self.events, &mut self.currents, slot);
     }
 }
 

@@ -1,8 +1,8 @@
-//! Writing one slot of two gauges from a text: left, a mark, right.
+//! One slot of two gauges: emptying it, and writing it from a text as left, a mark, right.
 ghost use mathlib.Core.Path.{_≡_};
 ghost use mathlib.Core.Bool.{true};
 ghost use Rattle.std.specs.Results.{isOk};
-ghost use Rattle.signature.specs.Sets.{Put};
+ghost use Rattle.signature.specs.Sets.{Put, nothing};
 ghost use Rattle.signature.specs.Slots.{endOf};
 ghost use Rattle.gauges.specs.Pairs.{partsAt, leftOf, rightOf, Kept};
 use signature::gauge::Gauge;
@@ -11,6 +11,15 @@ use text::mark::Mark;
 use text::mark::take_mark;
 use text::refusal::Layer;
 use text::refusal::Refusal;
+
+/// Empties the slot in both gauges.
+pub fn empty_pair<L: Gauge, R: Gauge>(left: &mut L, right: &mut R, slot: u32)
+    ensures left { λ _. ⌜ Put slot nothing (L·Gauge .sets (now (left .entry))) (L·Gauge .sets (now (left .exit))) ⌝ }
+    ensures right { λ _. ⌜ Put slot nothing (R·Gauge .sets (now (right .entry))) (R·Gauge .sets (now (right .exit))) ⌝ }
+{
+    left.empty_slot(slot);
+    right.empty_slot(slot);
+}
 
 // Writes left, mark and right as far as they are not refused.
 fn write_parts<L: WrittenGauge, R: WrittenGauge>(
@@ -47,8 +56,7 @@ pub fn write_pair<L: WrittenGauge, R: WrittenGauge>(
     match write_parts(left, right, mark, slot, text, at) {
         Ok(end) => Ok(end),
         Err(refusal) => {
-            left.empty_slot(slot);
-            right.empty_slot(slot);
+            empty_pair(left, right, slot);
             Err(refusal)
         }
     }

@@ -1,4 +1,3 @@
-use mathlib.Core.Path.{refl}
 use Rattle.gauges.proofs.Pairs.{emptied, left-none, right-none}
 use Rattle.gauges.proofs.pair.write_pair.Needs as need
 
@@ -8,6 +7,6 @@ returns-in-Err g c =
     let slot = c .args .slot in
     record {
       value = told .value;
-      left = emptied slot _ _ _ _ (left-none slot (c .args .at) _ _ (told .value)) (told .others .0) (c .empty-slot .ensures);
-      right = emptied slot _ _ _ _ (right-none slot (c .args .at) _ _ (told .value)) (told .others .1) (c .empty-slot-in-Err .ensures);
+      left = emptied slot _ _ _ _ (left-none slot (c .args .at) _ _ (told .value)) (told .others .0) (c .empty-pair .ensures .left);
+      right = emptied slot _ _ _ _ (right-none slot (c .args .at) _ _ (told .value)) (told .others .1) (c .empty-pair .ensures .right);
     }
