@@ -4,6 +4,7 @@ pub mod barring;
 pub mod both;
 pub mod codes;
 pub mod current;
+mod edges;
 pub mod entry;
 pub mod event;
 pub mod pair;
