@@ -24,7 +24,11 @@ impl<L: Gauge, R: Gauge<Reading = L::Reading>> Barring<L, R> {
     }
 }
 
-pub impl<L: Gauge, R: Gauge<Reading = L::Reading>> Gauge for Barring<L, R> as BarringGauge {
+pub impl<L, R> Gauge for Barring<L, R> as BarringGauge
+where
+    L: Gauge,
+    R: Gauge<Reading = L::Reading>,
+{
     type Reading = L::Reading;
 
     ghost sets = { λ g j. less (L·Gauge .sets (g .left) j) (R·Gauge .sets (g .right) j) };
@@ -38,7 +42,11 @@ pub impl<L: Gauge, R: Gauge<Reading = L::Reading>> Gauge for Barring<L, R> as Ba
     }
 }
 
-pub impl<L: WrittenGauge, R: WrittenGauge<Reading = L::Reading>> WrittenGauge for Barring<L, R> as BarringWrittenGauge {
+pub impl<L, R> WrittenGauge for Barring<L, R> as BarringWrittenGauge
+where
+    L: WrittenGauge,
+    R: WrittenGauge<Reading = L::Reading>,
+{
     ghost reads = { barringAt (L·WrittenGauge .reads) (R·WrittenGauge .reads) };
 
     fn write_slot(&mut self, slot: u32, text: &[u8], at: usize) -> Result<usize, Refusal> {

@@ -24,7 +24,11 @@ impl<L: Gauge, R: Gauge<Reading = L::Reading>> Both<L, R> {
     }
 }
 
-pub impl<L: Gauge, R: Gauge<Reading = L::Reading>> Gauge for Both<L, R> as BothGauge {
+pub impl<L, R> Gauge for Both<L, R> as BothGauge
+where
+    L: Gauge,
+    R: Gauge<Reading = L::Reading>,
+{
     type Reading = L::Reading;
 
     ghost sets = { λ g j. meet (L·Gauge .sets (g .left) j) (R·Gauge .sets (g .right) j) };
@@ -38,7 +42,11 @@ pub impl<L: Gauge, R: Gauge<Reading = L::Reading>> Gauge for Both<L, R> as BothG
     }
 }
 
-pub impl<L: WrittenGauge, R: WrittenGauge<Reading = L::Reading>> WrittenGauge for Both<L, R> as BothWrittenGauge {
+pub impl<L, R> WrittenGauge for Both<L, R> as BothWrittenGauge
+where
+    L: WrittenGauge,
+    R: WrittenGauge<Reading = L::Reading>,
+{
     ghost reads = { bothAt (L·WrittenGauge .reads) (R·WrittenGauge .reads) };
 
     fn write_slot(&mut self, slot: u32, text: &[u8], at: usize) -> Result<usize, Refusal> {

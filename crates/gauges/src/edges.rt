@@ -65,9 +65,18 @@ mod tests {
     fn numbers() -> Result<(), Fail> {
         check_eq(current_word(b"-0", 0)?, 1)?;
         check_eq(current_word(b"-000000000000000012", -12)?, 1)?;
-        check_eq(current_word(b"-2147483649", 0), Err(Refusal::OutOfRange { place: 0 }))?;
-        check_eq(current_word(b"2147483648", 0), Err(Refusal::OutOfRange { place: 0 }))?;
-        check_eq(current_word(b"5~65536", 0), Err(Refusal::OutOfRange { place: 2 }))?;
+        check_eq(
+            current_word(b"-2147483649", 0),
+            Err(Refusal::OutOfRange { place: 0 }),
+        )?;
+        check_eq(
+            current_word(b"2147483648", 0),
+            Err(Refusal::OutOfRange { place: 0 }),
+        )?;
+        check_eq(
+            current_word(b"5~65536", 0),
+            Err(Refusal::OutOfRange { place: 2 }),
+        )?;
         check_eq(current_word(b"-", 0), Err(Refusal::NoDigit { place: 1 }))?;
         Ok(())
     }
@@ -79,7 +88,13 @@ mod tests {
         check_eq(gauge.try_reading(&4), 1)?;
         check_eq(gauge.try_reading(&5), 0)?;
         check_eq(gauge.try_reading(&10), 0)?;
-        check_eq(gauge.write_slot(0, b"4!5", 0), Err(Refusal::NoMark { layer: Layer::Slot, place: 3 }))?;
+        check_eq(
+            gauge.write_slot(0, b"4!5", 0),
+            Err(Refusal::NoMark {
+                layer: Layer::Slot,
+                place: 3,
+            }),
+        )?;
         check_eq(gauge.try_reading(&4), 0)?;
         Ok(())
     }
@@ -88,9 +103,33 @@ mod tests {
     fn entries() -> Result<(), Fail> {
         let mut gauge = Entries::new(Event::new(), Current::new());
         check_eq(gauge.write_slot(1, b"7@-100~5", 0)?, 8)?;
-        check_eq(gauge.try_reading(&Entry { code: 7, current: -105 }), 2)?;
-        check_eq(gauge.try_reading(&Entry { code: 7, current: -106 }), 0)?;
-        check_eq(gauge.try_reading(&Entry { code: 8, current: -100 }), 0)?;
+        check_eq(
+            gauge.try_reading(
+                &Entry {
+                    code: 7,
+                    current: -105,
+                },
+            ),
+            2,
+        )?;
+        check_eq(
+            gauge.try_reading(
+                &Entry {
+                    code: 7,
+                    current: -106,
+                },
+            ),
+            0,
+        )?;
+        check_eq(
+            gauge.try_reading(
+                &Entry {
+                    code: 8,
+                    current: -100,
+                },
+            ),
+            0,
+        )?;
         Ok(())
     }
 }

@@ -31,7 +31,11 @@ impl<E: Gauge<Reading = u8>, C: Gauge<Reading = i32>> Entries<E, C> {
     }
 }
 
-pub impl<E: Gauge<Reading = u8>, C: Gauge<Reading = i32>> Gauge for Entries<E, C> as EntriesGauge {
+pub impl<E, C> Gauge for Entries<E, C> as EntriesGauge
+where
+    E: Gauge<Reading = u8>,
+    C: Gauge<Reading = i32>,
+{
     type Reading = Entry;
 
     ghost sets = { λ g j. entered (E·Gauge .sets (g .events) j) (C·Gauge .sets (g .currents) j) };
@@ -45,10 +49,21 @@ pub impl<E: Gauge<Reading = u8>, C: Gauge<Reading = i32>> Gauge for Entries<E, C
     }
 }
 
-pub impl<E: WrittenGauge<Reading = u8>, C: WrittenGauge<Reading = i32>> WrittenGauge for Entries<E, C> as EntriesWrittenGauge {
+pub impl<E, C> WrittenGauge for Entries<E, C> as EntriesWrittenGauge
+where
+    E: WrittenGauge<Reading = u8>,
+    C: WrittenGauge<Reading = i32>,
+{
     ghost reads = { entryAt (E·WrittenGauge .reads) (C·WrittenGauge .reads) };
 
     fn write_slot(&mut self, slot: u32, text: &[u8], at: usize) -> Result<usize, Refusal> {
-        write_pair(&mut self.events, &mut self.currents, Mark::At, slot, text, at)
+        write_pair(
+            &mut self.events,
+            &mut self.currents,
+            Mark::At,
+            slot,
+            text,
+            at,
+        )
     }
 }

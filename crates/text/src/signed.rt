@@ -9,8 +9,10 @@ use crate::mark::marked;
 use crate::number::read_number;
 use crate::refusal::Refusal;
 
-/// The greatest number, and the greatest that may stand behind a `-`.
+/// The greatest number.
 const GREATEST: u32 = 2147483647;
+
+/// The greatest that may stand behind a `-`.
 const FARTHEST: u32 = 2147483648;
 
 /// A signed number as it was read: its value, its first character's place and the place behind its last.
