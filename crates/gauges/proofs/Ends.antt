@@ -23,15 +23,15 @@ use Rattle.gauges.specs.declared.codes.Member.{Member}
 use Rattle.gauges.specs.Codes.{memberAt, membersFrom, membersAt, Listed, slotAt, eventAt}
 
 -- what came of one reading after another came of each
-both : {A B : Type 0} (r : Result A Refusal) (f : A → Result B Refusal) (b : B) → (r then f) ≡ Ok b → (a : A) × (r ≡ Ok a) × (f a ≡ Ok b)
+pub both : {A B : Type 0} (r : Result A Refusal) (f : A → Result B Refusal) (b : B) → (r then f) ≡ Ok b → (a : A) × (r ≡ Ok a) × (f a ≡ Ok b)
 both (Ok a) f b is = (a, refl, is)
 both (Err e) f b is = absurd (let z : _≡_ {A = ℕ} 0 1 = cc in omega arith)
 
-ok-same : {A : Type 0} (a b : A) → _≡_ {A = Result A Refusal} (Ok a) (Ok b) → a ≡ b
+pub ok-same : {A : Type 0} (a b : A) → _≡_ {A = Result A Refusal} (Ok a) (Ok b) → a ≡ b
 ok-same a b is = cc
 
 -- one of two ways
-either : {A P : Type 0} (t : Bool) (x y : Result A Refusal) (a : A) → cond t x y ≡ Ok a → (t ≡ true → x ≡ Ok a → P) → (t ≡ false → y ≡ Ok a → P) → P
+pub either : {A P : Type 0} (t : Bool) (x y : Result A Refusal) (a : A) → cond t x y ≡ Ok a → (t ≡ true → x ≡ Ok a → P) → (t ≡ false → y ≡ Ok a → P) → P
 either true x y a is yes′ no′ = yes′ refl is
 either false x y a is yes′ no′ = no′ refl is
 

@@ -6,3 +6,6 @@ pub mod Events
 pub mod Derived
 pub mod Alike
 pub mod Begins
+pub mod Pairs
+pub mod Joined
+pub mod Bands

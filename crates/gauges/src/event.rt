@@ -38,7 +38,7 @@ fn is_on(entry: u32, slot: u32) -> bool
 }
 
 // The entry with the slot's bit on or off.
-fn with_bit(entry: u32, slot: u32, on: bool) -> u32
+pub(crate) fn with_bit(entry: u32, slot: u32, on: bool) -> u32
     requires { ⌜ slot < 32 ⌝ }
     ensures { λ r. ⌜ ((j : ℕ) → bit r j ≡ cond (eqb j slot) on (bit entry j)) ⌝ }
 {

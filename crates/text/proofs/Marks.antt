@@ -7,7 +7,7 @@ use native.Mathlib.Omega.{arith}
 use Rattle.std.specs.declared.option.Option.the-variants.{Some, None}
 use Rattle.std.proofs.shelf.Ways.{tells}
 use Rattle.text.specs.declared.mark.Mark.{Mark}
-use Rattle.text.specs.declared.mark.Mark.the-variants.{Dash, Gap, Open, Comma, Close, ClassOpen, ClassClose, BarredOpen, BarredClose, Colon, Space}
+use Rattle.text.specs.declared.mark.Mark.the-variants.{Dash, Gap, Open, Comma, Close, ClassOpen, ClassClose, BarredOpen, BarredClose, Colon, Space, Tilde, At, And, Bang}
 use Rattle.text.specs.Words.{isDigit}
 use Rattle.text.specs.Marks.{codeOf, markOf}
 
@@ -23,6 +23,10 @@ mark-of-code BarredOpen = refl
 mark-of-code BarredClose = refl
 mark-of-code Colon = refl
 mark-of-code Space = refl
+mark-of-code Tilde = refl
+mark-of-code At = refl
+mark-of-code And = refl
+mark-of-code Bang = refl
 
 pub code-of-mark : (b : ℕ) (m : Mark) → markOf b ≡ Some m → b ≡ codeOf m
 code-of-mark b m is = grind (arith, tells)
@@ -40,6 +44,10 @@ mark-no-digit BarredOpen = (refl, λ e. omega arith)
 mark-no-digit BarredClose = (refl, λ e. omega arith)
 mark-no-digit Colon = (refl, λ e. omega arith)
 mark-no-digit Space = (refl, λ e. omega arith)
+mark-no-digit Tilde = (refl, λ e. omega arith)
+mark-no-digit At = (refl, λ e. omega arith)
+mark-no-digit And = (refl, λ e. omega arith)
+mark-no-digit Bang = (refl, λ e. omega arith)
 
 -- a test that tells the mark tells its code
 pub tests-code : (b : ℕ) (m : Mark) (r : Bool) → (r ≡ true → markOf b ≡ Some m) → (markOf b ≡ Some m → r ≡ true) → r ≡ eqb b (codeOf m)

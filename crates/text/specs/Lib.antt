@@ -4,3 +4,4 @@ pub mod Numbers
 pub mod Marks
 pub mod Grammar
 pub mod Places
+pub mod Signed

@@ -9,13 +9,13 @@ use Rattle.std.specs.declared.option.Option.the-variants.{Some, None}
 use Rattle.std.specs.declared.result.Result.{Result}
 use Rattle.std.specs.declared.result.Result.the-variants.{Ok, Err}
 use Rattle.text.specs.declared.mark.Mark.{Mark}
-use Rattle.text.specs.declared.mark.Mark.the-variants.{Dash, Gap, Open, Comma, Close, ClassOpen, ClassClose, BarredOpen, BarredClose, Colon, Space}
+use Rattle.text.specs.declared.mark.Mark.the-variants.{Dash, Gap, Open, Comma, Close, ClassOpen, ClassClose, BarredOpen, BarredClose, Colon, Space, Tilde, At, And, Bang}
 use Rattle.text.specs.declared.refusal.Layer.{Layer}
 use Rattle.text.specs.declared.refusal.Refusal.{Refusal}
 use Rattle.text.specs.declared.refusal.Refusal.the-variants.{NoMark}
 use Rattle.text.specs.Words.{placeIn}
 
--- the byte of each mark:  -  x  (  ,  )  [  ]  {  }  :  and the space
+-- the byte of each mark:  -  x  (  ,  )  [  ]  {  }  :  the space  ~  @  &  !
 abbrev pub codeOf : Mark → ℕ
 codeOf Dash = 45
 codeOf Gap = 120
@@ -28,13 +28,18 @@ codeOf BarredOpen = 123
 codeOf BarredClose = 125
 codeOf Colon = 58
 codeOf Space = 32
+codeOf Tilde = 126
+codeOf At = 64
+codeOf And = 38
+codeOf Bang = 33
 
 -- the mark of a byte
 abbrev pub markOf : ℕ → Option Mark
 markOf b =
     cond (eqb b 45) (Some Dash) (cond (eqb b 120) (Some Gap) (cond (eqb b 40) (Some Open) (cond (eqb b 44) (Some Comma) (cond (eqb b 41) (Some Close)
     (cond (eqb b 91) (Some ClassOpen) (cond (eqb b 93) (Some ClassClose) (cond (eqb b 123) (Some BarredOpen) (cond (eqb b 125) (Some BarredClose)
-    (cond (eqb b 58) (Some Colon) (cond (eqb b 32) (Some Space) None))))))))))
+    (cond (eqb b 58) (Some Colon) (cond (eqb b 32) (Some Space) (cond (eqb b 126) (Some Tilde) (cond (eqb b 64) (Some At)
+    (cond (eqb b 38) (Some And) (cond (eqb b 33) (Some Bang) None))))))))))))))
 
 -- the mark that a word of one byte is
 abbrev pub markIn : List ℕ → Option Mark

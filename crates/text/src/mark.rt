@@ -12,7 +12,7 @@ use crate::refusal::Refusal;
 
 #[derive(Clone, Copy, PartialEq, Eq)]
 pub enum Mark {
-    /// `-`, before each slot but the first, and before a gap
+    /// `-`, before each slot but the first, before a gap, and before a number below 0
     Dash,
     /// `x`, which begins a gap
     Gap,
@@ -34,6 +34,14 @@ pub enum Mark {
     Colon,
     /// a space, between two members
     Space,
+    /// `~`, before a tolerance
+    Tilde,
+    /// `@`, between an event slot and a current slot
+    At,
+    /// `&`, between two slots of which both must fit
+    And,
+    /// `!`, between a slot that must fit and one that must not
+    Bang,
 }
 
 // The mark that a byte is, if it is one.
@@ -52,6 +60,10 @@ fn mark_of(byte: u8) -> Option<Mark>
         '}' => Some(Mark::BarredClose),
         ':' => Some(Mark::Colon),
         ' ' => Some(Mark::Space),
+        '~' => Some(Mark::Tilde),
+        '@' => Some(Mark::At),
+        '&' => Some(Mark::And),
+        '!' => Some(Mark::Bang),
         _ => None,
     }
 }
