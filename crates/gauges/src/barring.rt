@@ -15,7 +15,11 @@ pub struct Barring<L, R> {
     right: R,
 }
 
-impl<L: Gauge, R: Gauge<Reading = L::Reading>> Barring<L, R> {
+impl<L, R> Barring<L, R>
+where
+    L: Gauge,
+    R: Gauge<Reading = L::Reading>,
+{
     /// The layer over two gauges as they are.
     pub fn new(left: L, right: R) -> Barring<L, R>
         ensures { λ r. ⌜ (r .left ≡ left) × (r .right ≡ right) ⌝ }

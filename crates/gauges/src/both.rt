@@ -15,7 +15,11 @@ pub struct Both<L, R> {
     right: R,
 }
 
-impl<L: Gauge, R: Gauge<Reading = L::Reading>> Both<L, R> {
+impl<L, R> Both<L, R>
+where
+    L: Gauge,
+    R: Gauge<Reading = L::Reading>,
+{
     /// The layer over two gauges as they are.
     pub fn new(left: L, right: R) -> Both<L, R>
         ensures { λ r. ⌜ (r .left ≡ left) × (r .right ≡ right) ⌝ }

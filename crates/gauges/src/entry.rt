@@ -22,7 +22,11 @@ pub struct Entries<E, C> {
     currents: C,
 }
 
-impl<E: Gauge<Reading = u8>, C: Gauge<Reading = i32>> Entries<E, C> {
+impl<E, C> Entries<E, C>
+where
+    E: Gauge<Reading = u8>,
+    C: Gauge<Reading = i32>,
+{
     /// The gauge over two gauges as they are.
     pub fn new(events: E, currents: C) -> Entries<E, C>
         ensures { λ r. ⌜ (r .events ≡ events) × (r .currents ≡ currents) ⌝ }
