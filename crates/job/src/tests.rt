@@ -1,5 +1,6 @@
 //! What is printed for small files, valid and damaged.
 use crate::run::run_job;
+use std::alloc::AllocError;
 use std::alloc::Global;
 use std::test::*;
 
@@ -104,4 +105,61 @@ fn hits(rt: LibcRuntime) -> Result<(), Fail> {
         b"\x07\x00\x00\x00\x02\x00\x00\x00{0:255}\x00\xff",
         "hits 0 of 2\n",
     )
+}
+
+// A file with one reading, 1, and a text of as many parts and then an end.
+fn repeated(
+    heap: Global,
+    header: &[u8],
+    part: &[u8],
+    count: usize,
+    end: &[u8],
+) -> Result<Vec<u8>, AllocError> {
+    let mut file = Vec::new(heap);
+    file.extend_from_slice(header)?;
+    for _ in 0..count {
+        file.extend_from_slice(part)?;
+    }
+    file.extend_from_slice(end)?;
+    Ok(file)
+}
+
+#[test]
+fn most_slots(rt: LibcRuntime) -> Result<(), Fail> {
+    let full = repeated(
+        rt.alloc(),
+        b"\x3f\x00\x00\x00\x01\x00\x00\x00",
+        b"1-",
+        31,
+        b"1\x01",
+    )?;
+    prints(rt.alloc(), &full, "hits 0 of 1\n")?;
+    let more = repeated(
+        rt.alloc(),
+        b"\x41\x00\x00\x00\x01\x00\x00\x00",
+        b"1-",
+        32,
+        b"1\x01",
+    )?;
+    prints(rt.alloc(), &more, "refused 6 signature 64\n")
+}
+
+#[test]
+fn longest_text(rt: LibcRuntime) -> Result<(), Fail> {
+    let full = repeated(
+        rt.alloc(),
+        b"\x00\x10\x00\x00\x01\x00\x00\x00",
+        b"0",
+        4096,
+        b"\x00",
+    )?;
+    prints(rt.alloc(), &full, "hit 0 at 0\nhits 1 of 1\n")?;
+    let more = repeated(
+        rt.alloc(),
+        b"\x01\x10\x00\x00\x01\x00\x00\x00",
+        b"0",
+        4097,
+        b"\x00",
+    )?;
+    prints(rt.alloc(), &more, "refused 1 signature 4096\n")
 }
