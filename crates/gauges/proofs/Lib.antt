@@ -9,3 +9,4 @@ pub mod Begins
 pub mod Pairs
 pub mod Joined
 pub mod Bands
+pub mod Sheets

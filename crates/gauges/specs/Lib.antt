@@ -4,3 +4,4 @@ pub mod Grammar
 pub mod Pairs
 pub mod Currents
 pub mod Entries
+pub mod Texts

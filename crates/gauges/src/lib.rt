@@ -9,3 +9,4 @@ pub mod entry;
 pub mod event;
 pub mod grammar;
 pub mod pair;
+pub mod texts;
