@@ -28,13 +28,13 @@ use Rattle.gauges.specs.declared.band.Band.{Band}
 use Rattle.gauges.specs.declared.band.ReadBand.{ReadBand}
 use Rattle.gauges.specs.Currents.{within, bandAt, currentAt, heldBy, banded}
 use Rattle.gauges.proofs.Tables.{getD-replicate-same}
-use Rattle.gauges.proofs.Ends.{both, either, ok-same}
+use Rattle.text.proofs.Steps.{both, ok-same, ways}
 
 band-within : (s : List ℕ) (at : ℕ) (b : ReadBand) → bandAt s at ≡ Ok b → (at < b .end) × (b .end ≤ length s)
 band-within s at b is =
     let (t, first, rest) = both (signedAt s at) _ b is in
     let n = signed-within s at t first in
-    either (isMark Tilde s (t .end)) _ _ b rest
+    ways (isMark Tilde s (t .end)) _ _ _ rest
     (λ m f. let (d, second, out) = both (numberAt 65535 s (t .end + 1)) _ b f in let k = number-within 65535 s (t .end + 1) d second in (grind (arith, tells), grind (arith, tells)))
     (λ m f. (grind (arith, tells), grind (arith, tells)))
 

@@ -17,29 +17,17 @@ use Rattle.text.specs.declared.refusal.Refusal.the-variants.{NoDigit}
 use Rattle.text.specs.Refusals.{_then_}
 use Rattle.text.specs.Numbers.{numberAt}
 use Rattle.text.specs.Marks.{isMark, takeMark}
+use Rattle.text.proofs.Steps.{both, ok-same, ways}
 use Rattle.text.proofs.Bounds.{number-within, number-past, mark-inside, mark-past, mark-within}
 use Rattle.signature.specs.Slots.{Within, Past}
 use Rattle.gauges.specs.declared.codes.Member.{Member}
 use Rattle.gauges.specs.Codes.{memberAt, membersFrom, membersAt, Listed, slotAt, eventAt}
 
--- what came of one reading after another came of each
-pub both : {A B : Type 0} (r : Result A Refusal) (f : A → Result B Refusal) (b : B) → (r then f) ≡ Ok b → (a : A) × (r ≡ Ok a) × (f a ≡ Ok b)
-both (Ok a) f b is = (a, refl, is)
-both (Err e) f b is = absurd (let z : _≡_ {A = ℕ} 0 1 = cc in omega arith)
-
-pub ok-same : {A : Type 0} (a b : A) → _≡_ {A = Result A Refusal} (Ok a) (Ok b) → a ≡ b
-ok-same a b is = cc
-
--- one of two ways
-pub either : {A P : Type 0} (t : Bool) (x y : Result A Refusal) (a : A) → cond t x y ≡ Ok a → (t ≡ true → x ≡ Ok a → P) → (t ≡ false → y ≡ Ok a → P) → P
-either true x y a is yes′ no′ = yes′ refl is
-either false x y a is yes′ no′ = no′ refl is
-
 member-within : (s : List ℕ) (at : ℕ) (m : Member) → memberAt s at ≡ Ok m → (at < m .end) × (m .end ≤ length s)
 member-within s at m is =
     let (a, first, rest) = both (numberAt 255 s at) _ m is in
     let n = number-within 255 s at a first in
-    either (isMark Colon s (a .end)) _ _ m rest
+    ways (isMark Colon s (a .end)) _ _ _ rest
     (λ t f. let (b, second, last) = both (numberAt 255 s (a .end + 1)) _ m f in let k = number-within 255 s (a .end + 1) b second in (grind (arith, tells), grind (arith, tells)))
     (λ t f. (grind (arith, tells), grind (arith, tells)))
 
@@ -48,7 +36,7 @@ members-within zero shut s at ms e is = absurd (let z : _≡_ {A = ℕ} 0 1 = cc
 members-within (suc n) shut s at ms e is =
     let (m, first, rest) = both (memberAt s at) _ (ms, e) is in
     let b = member-within s at m first in
-    either (isMark shut s (m .end)) _ _ (ms, e) rest
+    ways (isMark shut s (m .end)) _ _ _ rest
     (λ t f. let in′ = mark-inside shut s (m .end) t in (grind (arith, tells), grind (arith, tells)))
     (λ t f.
     let (next, space, more) = both (takeMark Slot Space s (m .end)) _ (ms, e) f in
@@ -60,9 +48,9 @@ members-within (suc n) shut s at ms e is =
 slot-within : (s : List ℕ) (at : ℕ) (v : Listed) (e : ℕ) → slotAt s at ≡ Ok (v, e) → (at < e) × (e ≤ length s)
 unfolding membersAt
 slot-within s at v e is =
-    either (isMark ClassOpen s at) _ _ (v, e) is
+    ways (isMark ClassOpen s at) _ _ _ is
     (λ t f. let (ms, members, out) = both (membersAt ClassClose s (at + 1)) _ (v, e) f in let w = members-within (suc (length s)) ClassClose s (at + 1) (ms .0) (ms .1) members in (grind (arith, tells), grind (arith, tells)))
-    (λ t f. either (isMark BarredOpen s at) _ _ (v, e) f
+    (λ t f. ways (isMark BarredOpen s at) _ _ _ f
     (λ u g. let (ms, members, out) = both (membersAt BarredClose s (at + 1)) _ (v, e) g in let w = members-within (suc (length s)) BarredClose s (at + 1) (ms .0) (ms .1) members in (grind (arith, tells), grind (arith, tells)))
     (λ u g. let (n, number, out) = both (numberAt 255 s at) _ (v, e) g in let w = number-within 255 s at n number in (grind (arith, tells), grind (arith, tells))))
 

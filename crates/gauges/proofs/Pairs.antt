@@ -23,7 +23,7 @@ use Rattle.text.proofs.Bounds.{mark-within}
 use Rattle.signature.specs.Sets.{Put, nothing}
 use Rattle.signature.specs.Slots.{Reads, setOf, endOf, Within, Past}
 use Rattle.gauges.specs.Pairs.{Parts, partsAt, leftOf, rightOf, Joins, pairAt, Kept}
-use Rattle.gauges.proofs.Ends.{both, ok-same}
+use Rattle.text.proofs.Steps.{both, ok-same}
 
 -- where writing was refused, what would have been read next changes nothing
 refused-on : {A B : Type 0} (few : Bool) (a : Result (A × ℕ) Refusal) (f : A × ℕ → Result (B × ℕ) Refusal) (x y : Refusal)
