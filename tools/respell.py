@@ -53,7 +53,7 @@ def respelled(name):
     if name in OTHERWISE:
         return OTHERWISE[name]
     if name[0].isupper():
-        return re.sub(r"-+(\w)", lambda m: m.group(1).upper(), name)
+        return re.sub(r"[-_]+([a-z])", lambda m: m.group(1).upper(), name)
     name = re.sub(r"(?<=[a-z0-9])([A-Z])(?=[a-z]|$|[-_])", lambda m: "_" + m.group(1).lower(), name)
     return name.replace("-", "_")
 

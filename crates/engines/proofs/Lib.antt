@@ -2,7 +2,10 @@ pub mod Chains
 pub mod Bits
 pub mod Blocks
 pub mod LowBit
-pub mod Arrays
 pub mod Signatures
 pub mod Looking
 pub mod Recalled
+pub mod Fields
+pub mod Laid
+pub mod Masked
+pub mod Rings

@@ -1,4 +1,11 @@
-//! What every engine does, and what all of them share.
+//! Engines: each turns the fits of one reading after another into mark words.
+#![tactic(auto)]
+
 pub mod engine;
-pub mod ones;
-pub mod shape;
+mod layout;
+pub mod mask;
+mod ones;
+pub mod ring;
+mod shape;
+mod windows;
+pub mod word;

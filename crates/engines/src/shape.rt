@@ -8,7 +8,7 @@ use runs::gap::Gap;
 use runs::signature::Signature;
 
 /// Gap j, 0 to 0 where there is none.
-pub fn gap_at(signature: &Signature, j: u32) -> Gap
+pub(crate) fn gap_at(signature: &Signature, j: u32) -> Gap
     ensures { result ≡ nth_gap signature.now j }
 {
     let gaps = signature.used_gaps();
@@ -20,7 +20,7 @@ pub fn gap_at(signature: &Signature, j: u32) -> Gap
 }
 
 /// The bits of the slots after the first.
-pub fn later_slots(signature: &Signature) -> u32
+pub(crate) fn later_slots(signature: &Signature) -> u32
     ensures { result ≡ block 1 (signature.now.slots - 1) }
 {
     ones(1, signature.slots.saturating_sub(1)) as u32

@@ -4,7 +4,7 @@ use Rattle.text.specs.declared.mark.Mark.{Mark}
 use Rattle.text.specs.declared.mark.Mark.TheVariants.{Gap as Cross, ClassOpen, ClassClose, BarredOpen, BarredClose, Colon, Space}
 use Rattle.text.specs.declared.refusal.Layer.TheVariants.{Slot}
 use Rattle.text.specs.declared.refusal.Refusal.{Refusal}
-use Rattle.text.specs.Refusals.{◌then◌, place_of}
+use Rattle.text.specs.Refusals.{place_of}
 use Rattle.text.specs.Words.{is_digit}
 use Rattle.text.specs.Numbers.{number_at}
 use Rattle.text.specs.Marks.{is_mark, mark_taken}
@@ -14,7 +14,7 @@ use Rattle.text.proofs.Steps.{err_same, no_refusal, faults, ways}
 use Rattle.text.proofs.Bounds.{mark_within, mark_inside}
 use Rattle.text.proofs.Derived.{mark_sound, number_sound, digit_no_mark, one_mark}
 use Rattle.text.proofs.Begins.{Part, Fills, Stops, MarkThen, NumberThen, Ended, as_part, mark_moved, number_moved, mark_stops, mark_then_stops, ended_stops, front, fill_as, fill_end, fill_mark, fill_number, here, mark_place, number_place, mark_begins, number_begins}
-use Rattle.signature.specs.Refused.{SomeSlot, Goes_on, BeginsSome}
+use Rattle.signature.specs.Refused.{SomeSlot, GoesOn, BeginsSome}
 use Rattle.signature.proofs.Begins.{begins_some}
 use Rattle.gauges.specs.Codes.{member_at, covers, members_from, members_at, slot_at, event_at}
 use Rattle.gauges.specs.Grammar.{range, MemberText, lone, pair, MembersText, last, more, EventText, code, listed, barred}
@@ -209,7 +209,7 @@ event_fault : (s : List ℕ) (a : ℕ) (x : Refusal) → a ≤ length s → even
 unfolding event_at
 event_fault s a x in' is = faults (slot_at s a) _ x is (λ f. slot_fault s a x in' f) (λ v ok f. absurd (no_refusal _ x f))
 
-pub event_goes_on : Goes_on event_at
+pub event_goes_on : GoesOn event_at
 unfolding as_slot
 event_goes_on = record {
   some = fill_as Event (SomeSlot event_at) (λ t a text. as_slot t a (length t) text) fill_event;

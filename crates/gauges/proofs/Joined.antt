@@ -1,5 +1,5 @@
 -- Bits of two words together.
-use Rattle.std.proofs.Common.{◌≡◌, ℕ, suc, ◌+◌, ◌-◌, ◌*◌, ◌/◌, ◌%◌, ◌^◌, ◌<◌, ◌≤◌, min, Bool, true, false, not, ◌&&◌, eqb, sym, refl, ap, ◌∙◌, suc-mul, add-mul, arith}
+use Rattle.std.proofs.Common.{◌≡◌, ℕ, suc, ◌+◌, ◌-◌, ◌*◌, ◌/◌, ◌%◌, ◌^◌, ◌<◌, min, not, ◌&&◌, eqb, sym, ap, ◌∙◌, suc-mul, add-mul, arith}
 use lib.Bits.{bit_and, and_step, and_shr}
 use Rattle.std.proofs.lemmas.Nat.{pow_pos, pow-add, shr_split, shr_high, shr_below, mod_below}
 use Rattle.std.proofs.lemmas.Bool.Decides.{nat_tests}

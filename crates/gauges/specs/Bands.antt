@@ -1,5 +1,5 @@
 -- Where the text of a slot of currents ends, and what writing one leaves.
-use Rattle.std.specs.Prelude.{◌≡◌, ℕ, ◌+◌, ◌<◌, ◌≤◌, min, Bool, true, false, cond, ◌⊎◌, List, length, set, replicate, ℤ, Some, None, Ok, Err, Option, Result, ◌==◌, ◌≢◌, nat_lt, slice_set}
+use Rattle.std.specs.Prelude.{◌≡◌, ℕ, ◌+◌, ◌<◌, ◌≤◌, Bool, false, cond, ◌⊎◌, List, length, replicate, ℤ, Some, None, Ok, Err, Option, ◌==◌, ◌≢◌, nat_lt, slice_set}
 use Rattle.std.proofs.Math.Path.{refl}
 use Rattle.std.proofs.Common.{sym, ap, ◌∙◌, inl, inr, arith}
 use Rattle.std.proofs.lemmas.List.{get_or-set_same, get_or-set_other}
@@ -7,7 +7,6 @@ use Rattle.std.proofs.lemmas.Bool.{cases_eq, eq-eqb, ne_eqb, lt-ltb}
 use Rattle.std.proofs.lemmas.Bool.Decides.{nat_tests}
 use Rattle.text.specs.declared.mark.Mark.TheVariants.{Tilde}
 use Rattle.text.specs.declared.refusal.Refusal.{Refusal}
-use Rattle.text.specs.Refusals.{◌then◌}
 use Rattle.text.specs.Numbers.{number_at}
 use Rattle.text.specs.Signed.{signed_at}
 use Rattle.text.specs.Marks.{is_mark}
@@ -16,7 +15,7 @@ use Rattle.signature.specs.Sets.{Put}
 use Rattle.signature.specs.Slots.{set_of, end_of, Within, Past}
 use Rattle.gauges.specs.declared.band.Band.{Band}
 use Rattle.gauges.specs.declared.band.ReadBand.{ReadBand}
-use Rattle.gauges.specs.Currents.{within, band_at, current_at, held_by, banded}
+use Rattle.gauges.specs.Currents.{band_at, current_at, held_by, banded}
 use Rattle.gauges.specs.TablesLemmas.{get_d_replicate_same}
 use Rattle.text.proofs.Steps.{both, ok_same, ways}
 

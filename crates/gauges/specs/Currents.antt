@@ -1,5 +1,5 @@
 -- What the text of a slot of currents says, and which readings it holds.
-use Rattle.std.specs.Prelude.{ℕ, ◌+◌, Bool, false, cond, List, ℤ, ◌-ℤ◌, Some, None, Ok, Err, Option, Result, nat_le, slice_index_or, unsigned_abs}
+use Rattle.std.specs.Prelude.{ℕ, ◌+◌, Bool, false, cond, List, ℤ, ◌-ℤ◌, Some, None, Ok, Option, Result, nat_le, slice_index_or, unsigned_abs}
 use Rattle.text.specs.declared.mark.Mark.TheVariants.{Tilde}
 use Rattle.text.specs.declared.refusal.Refusal.{Refusal}
 use Rattle.text.specs.Refusals.{◌then◌}

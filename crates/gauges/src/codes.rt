@@ -93,8 +93,8 @@ fn byte_at(text: &[u8], at: usize) -> u8
 
 // Reads a slot's text into a set that is empty.
 pub(crate) fn read_codes(text: &[u8], at: usize, inside: &mut [bool]) -> Result<usize, Refusal>
-    requires inside_len { length inside.old ≡ 256 }
-    requires by_index { (c : ℕ) → slice_index_or inside.old c false ≡ false }
+    requires long { length inside.old ≡ 256 }
+    requires empty { (c : ℕ) → slice_index_or inside.old c false ≡ false }
     ensures value { result ≡ behind (slot_at text.now at) }
     ensures codes { IfOk (slot_at text.now at) (λ v. (c : ℕ) → c < 256 → slice_index_or inside.new c false ≡ holds v.0 c) }
     ensures grammar { ReadsSlot text.now at result inside.new }

@@ -1,6 +1,6 @@
 //! The laws of the text of a slot of event codes, and of a signature of such slots.
 ghost use Rattle.std.specs.Prelude.{ℕ, List};
-ghost use Rattle.signature.specs.Refused.{Looks, RefusedAlike, Goes_on, BeginsSome};
+ghost use Rattle.signature.specs.Refused.{Looks, RefusedAlike, GoesOn, BeginsSome};
 ghost use Rattle.gauges.specs.Codes.{event_at};
 ghost use Rattle.gauges.specs.Grammar.{EventExactly};
 
@@ -25,7 +25,7 @@ pub fn event_refusals() -> u8
 /// bytes before the refusal's place begin some slot. So the bytes before the place where a signature is refused begin
 /// some text of the grammar.
 pub fn event_beginnings() -> u8
-    ensures goes { Goes_on event_at }
+    ensures goes { GoesOn event_at }
     ensures begins { (s : List ℕ) → BeginsSome event_at s }
 {
     0

@@ -1,4 +1,6 @@
 //! The gauges: each says for its kind of reading which slots a reading fits.
+#![tactic(auto)]
+
 pub mod band;
 pub mod barring;
 pub mod both;

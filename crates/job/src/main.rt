@@ -1,4 +1,6 @@
 //! The job program: a job file on standard input, its hits and their traces on standard output.
+#![tactic(auto)]
+
 mod job_file;
 mod report;
 mod run;

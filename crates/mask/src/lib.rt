@@ -1,4 +1,5 @@
 //! The engine that keeps one mask of 64 places for each slot.
+#![tactic(auto)]
 ghost use Rattle.std.specs.Prelude.{◌≡◌, ℕ, false};
 ghost use Rattle.runs.specs.Signatures.{Blank};
 ghost use Rattle.strips.specs.Masks.{masks_say};

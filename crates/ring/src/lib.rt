@@ -1,4 +1,5 @@
 //! The engine that keeps the last 64 words.
+#![tactic(auto)]
 ghost use Rattle.std.specs.Prelude.{◌≡◌, ℕ, suc, ◌-◌, ◌<◌, false, Decides};
 ghost use Rattle.runs.specs.Signatures.{Blank};
 ghost use Rattle.engines.specs.Blocks.{block};

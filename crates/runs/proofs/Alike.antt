@@ -1,5 +1,5 @@
 -- Patterns whose slots have the same sets have the same marks, words, hits and traces.
-use Rattle.std.proofs.Common.{◌≡◌, ℕ, zero, suc, ◌<◌, ◌≤◌, Bool, ◌&&◌, List, [], ◌∷◌, map, length, Some, None, Option, refl, ap, ◌∙◌, arith}
+use Rattle.std.proofs.Common.{◌≡◌, ℕ, zero, suc, ◌≤◌, Bool, ◌&&◌, List, [], ◌∷◌, map, length, Some, None, Option, refl, ap, arith}
 use Rattle.std.specs.List.{slice_get, range_with_len}
 use Rattle.runs.specs.declared.gap.Gap.{Gap}
 use Rattle.runs.specs.Runs.{Pattern, among}
@@ -7,7 +7,7 @@ use Rattle.runs.specs.Words.{near, mark, word, words, hits, trace}
 use Rattle.runs.proofs.Below.{kept_same}
 use Rattle.runs.proofs.Next.{some_same}
 use Rattle.runs.proofs.Places.{trace_to_same}
-use Rattle.runs.proofs.Worded.{bits_same, word_bits}
+use Rattle.runs.proofs.Worded.{bits_same}
 
 module _ {R : Type 0} (f g : ℕ → R → Bool) (gs : List Gap) (same : (j : ℕ) → j ≤ length gs → (x : R) → f j x ≡ g j x) (xs : List R) where
   abbrev P : Pattern R

@@ -1,13 +1,13 @@
 -- The trace of a hit.
-use Rattle.std.proofs.Common.{◌≡◌, ℕ, zero, suc, ◌<◌, ◌≤◌, Bool, true, false, cond, ◌⊎◌, List, [], ◌∷◌, ◌++◌, length, sym, refl, ◌∙◌, subst, inl, inr, arith}
+use Rattle.std.proofs.Common.{◌≡◌, ℕ, zero, suc, ◌<◌, ◌≤◌, true, ◌⊎◌, List, [], ◌∷◌, ◌++◌, length, sym, ◌∙◌, subst, inl, inr, arith}
 use Rattle.std.specs.List.{slice_get}
-use Rattle.std.proofs.lemmas.Bool.{cases_lt, cases_order, both_ways}
+use Rattle.std.proofs.lemmas.Bool.{cases_lt, cases_order}
 use Rattle.std.proofs.lemmas.List.{ext_get_or}
 use Rattle.runs.specs.Runs.{Pattern, last_slot, slots, place, fits_at, Near, Run, Mark, Hit, Latest, Trace, Earlier}
 use Rattle.runs.specs.Words.{mark, before, trace_to, trace}
 use Rattle.runs.specs.Laws.{Traces, Final}
 use Rattle.runs.proofs.Steps.{at_top, at_low}
-use Rattle.runs.proofs.Marked.{push_long, push_front, push_end, mark_in_run, fits_from, mark_suc, mark_decides, earlier, earlier_decides}
+use Rattle.runs.proofs.Marked.{push_front, push_end, mark_in_run, fits_from, mark_suc, mark_decides, earlier, earlier_decides}
 use Rattle.runs.proofs.Places.{last_is, trace_long, trace_end}
 use Rattle.runs.proofs.Local.{alike_below, within_run}
 

@@ -1,11 +1,11 @@
 -- The words that an engine makes of the fits of a list of readings are the readings' mark words.
-use Rattle.std.proofs.Common.{◌≡◌, ℕ, zero, suc, ◌+◌, ◌-◌, ◌<◌, ◌≤◌, Bool, true, false, cond, ◌⊎◌, List, [], ◌∷◌, map, length, get_or, Ok, Err, filter, sym, refl, ap, ◌∙◌, inl, inr, arith}
+use Rattle.std.proofs.Common.{◌≡◌, ℕ, zero, suc, ◌-◌, ◌<◌, ◌≤◌, Bool, List, [], ◌∷◌, map, length, get_or, Ok, filter, sym, refl, ap, ◌∙◌, arith}
 use Rattle.std.proofs.lemmas.List.{ext_get_or}
 use Rattle.std.proofs.lemmas.Bool.Decides.{nat_tests}
 use Rattle.runs.specs.declared.signature.Signature.{Signature}
 use Rattle.runs.specs.Bits.{bit}
 use Rattle.runs.specs.Gaps.{high}
-use Rattle.runs.specs.Runs.{Pattern, last_slot, slots, fits_at}
+use Rattle.runs.specs.Runs.{Pattern, last_slot, fits_at}
 use Rattle.runs.specs.Signatures.{gaps_of, pattern_of}
 use Rattle.runs.specs.Words.{mark, word, words, hits}
 use Rattle.runs.proofs.Next.{past, past_out, past_newest, past_older, word_from}

@@ -1,10 +1,10 @@
 -- A sheet of mark words tells the hits and the traces.
-use Rattle.std.proofs.Common.{◌≡◌, ℕ, ◌-◌, ◌<◌, ◌≤◌, Bool, true, false, ◌&&◌, ltb, ◌↔◌, List, length, get_or, filter, sym, refl, ap, ◌∙◌, arith}
+use Rattle.std.proofs.Common.{◌≡◌, ℕ, ◌-◌, ◌<◌, ◌≤◌, Bool, List, length, get_or, filter, sym, ap, ◌∙◌, arith}
 use Rattle.std.specs.List.{range_with_len}
 use Rattle.std.proofs.lemmas.Bool.Decides.{nat_tests}
 use Rattle.runs.specs.declared.signature.Signature.{Signature}
 use Rattle.runs.specs.Bits.{bit}
-use Rattle.runs.specs.Runs.{Pattern, Hit, last_slot}
+use Rattle.runs.specs.Runs.{Pattern, last_slot}
 use Rattle.runs.specs.Signatures.{gaps_of, pattern_of}
 use Rattle.runs.specs.Words.{mark, word, words, hits, trace, trace_to}
 use Rattle.runs.proofs.Below.{kept_same}

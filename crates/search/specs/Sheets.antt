@@ -1,5 +1,5 @@
 -- Sheets: a mark word for each place.
-use Rattle.std.specs.Prelude.{◌≡◌, ℕ, ◌-◌, ◌<◌, Bool, List, length, Ok, Err, filter, Result, slice_index}
+use Rattle.std.specs.Prelude.{◌≡◌, ℕ, ◌<◌, Bool, List, length, Ok, Err, filter, Result, slice_index}
 use Rattle.std.specs.List.{slice_get}
 use Rattle.text.specs.declared.refusal.Refusal.{Refusal}
 use Rattle.text.specs.Refusals.{◌then◌}

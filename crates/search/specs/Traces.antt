@@ -1,5 +1,5 @@
 -- The trace of a hit by a sheet's words, and when a trace is refused.
-use Rattle.std.specs.Prelude.{ℕ, ◌-◌, Bool, cond, not, ◌&&◌, List, ◌++◌, length, drop, Ok, Err, filter, Result, nat_le, nat_lt, slice_index}
+use Rattle.std.specs.Prelude.{ℕ, ◌-◌, Bool, cond, ◌&&◌, List, ◌++◌, length, drop, Ok, Err, filter, Result, nat_le, nat_lt, slice_index}
 use Rattle.std.specs.List.{range_with_len}
 use Rattle.text.specs.declared.refusal.Refusal.{Refusal}
 use Rattle.text.specs.declared.refusal.Refusal.TheVariants.{NoPlace, NoHit, ShortList}
@@ -25,16 +25,13 @@ abbrev pub trace_of : Signature → List ℕ → ℕ → List ℕ
 trace_of s sheet p = trace_to (gaps_of s) (sheet_marks sheet) (s.slots - 1) p
 
 -- the order of the refusals: the place, the hit, the room in the list
-abbrev pub tracing_by : (places slots : ℕ) (hit : Bool) (p room : ℕ) → Result (Unit {0}) Refusal
-tracing_by places slots hit p room =
-    cond (nat_lt p places)
-    (cond hit
-    (cond (nat_le slots room) (Ok tt) (Err (ShortList p)))
+abbrev pub tracing : Signature → List ℕ → ℕ → ℕ → Result (Unit {0}) Refusal
+tracing s sheet p room =
+    cond (nat_lt p (length sheet))
+    (cond (sheet_hit s sheet p)
+    (cond (nat_le s.slots room) (Ok tt) (Err (ShortList p)))
     (Err (NoHit p)))
     (Err (NoPlace p))
-
-abbrev pub tracing : Signature → List ℕ → ℕ → ℕ → Result (Unit {0}) Refusal
-tracing s sheet p room = tracing_by (length sheet) s.slots (sheet_hit s sheet p) p room
 
 -- only the first entries of the list change, one for each slot, and none where the trace is refused
 abbrev pub places_from : Signature → List ℕ → ℕ → List ℕ → Result (Unit {0}) Refusal → List ℕ

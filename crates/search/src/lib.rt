@@ -1,4 +1,6 @@
 //! Searching a list of readings for every hit, and tracing a hit back.
+#![tactic(auto)]
+
 pub mod laws;
 pub mod opening;
 pub mod searching;

@@ -16,7 +16,7 @@ pub fn check_opening<E: Engine>(
     sheet: usize,
     signature: &Signature,
 ) -> Result<(), Refusal>
-    ensures { result ≡ opening limit readings sheet signature.now }
+    ensures { result ≡ opening E.Engine.limit readings sheet signature.now }
 {
     if readings != sheet || readings == 0 || readings > MOST {
         return Err(Refusal::Buffers);

@@ -14,7 +14,7 @@ use text::refusal::Refusal;
 // Writes at each place which slots its reading fits.
 fn try_all<G: Gauge>(gauge: &G, readings: &[G::Reading], sheet: &mut [u32])
     requires { length readings.now ≡ length sheet.old }
-    ensures { Fitted (sets gauge.now) readings.now sheet.new }
+    ensures { Fitted (G.Gauge.sets gauge.now) readings.now sheet.new }
 {
     for (place, reading) in readings.iter().enumerate() {
         sheet[place] = gauge.try_reading(reading);

@@ -21,7 +21,7 @@ use Rattle.signature.specs.Slots.{Reads, Within}
 use Rattle.signature.specs.Joins.{nth_gap, no_gap_at, join_at}
 use Rattle.signature.specs.Outcomes.{Plan, rest_at, slots_at, signature_at}
 use Rattle.signature.specs.Grammar.{JoinText, none, gap, SlotText, RestText, end, more, SignatureText, slots}
-use Rattle.signature.specs.Refused.{SomeSlot, Goes_on, BeginsSome}
+use Rattle.signature.specs.Refused.{SomeSlot, GoesOn, BeginsSome}
 use Rattle.signature.proofs.Derived.{join_sound, no_gap_sound}
 
 join_moved : (s t : List ℕ) (a b : ℕ) (g : Gap) → take b t ≡ take b s → JoinText s a b g → JoinText t a b g
@@ -161,7 +161,7 @@ stray_place s a x is =
     (λ t f. ap place_of (sym (err_same (StrayGap a) x f)))
     (λ t f. absurd (no_refusal _ x f))
 
-module _ {R : Type 0} (reads : Reads R) (goes : Goes_on reads) (within : Within reads) (s : List ℕ) (x : Refusal) where
+module _ {R : Type 0} (reads : Reads R) (goes : GoesOn reads) (within : Within reads) (s : List ℕ) (x : Refusal) where
   abbrev Slot : Part
   Slot = SomeSlot reads
 
@@ -273,7 +273,7 @@ module _ {R : Type 0} (reads : Reads R) (goes : Goes_on reads) (within : Within 
       whole : Begins Slot s 0 x → (r : List ℕ) × (p : Plan R) × SignatureText reads (take (place_of x) s ++ r) p
       whole (on, far, (r, (set, slot))) = (r, record { sets = set ∷ []; gaps = [] }, slots slot (end refl))
 
-pub begins_some : {R : Type 0} (reads : Reads R) → Goes_on reads → Within reads → (s : List ℕ) → BeginsSome reads s
+pub begins_some : {R : Type 0} (reads : Reads R) → GoesOn reads → Within reads → (s : List ℕ) → BeginsSome reads s
 unfolding signature_at
 begins_some reads goes within s x is other =
     ways (leb (length s) 4096) _ _ (Err x) is

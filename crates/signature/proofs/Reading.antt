@@ -1,6 +1,5 @@
 -- What one turn of reading slots keeps: the whole text is read as what is in hand, and then the rest.
-use Rattle.std.proofs.Common.{◌≡◌, ℕ, zero, suc, ◌+◌, ◌-◌, ◌<◌, ◌≤◌, Bool, true, false, cond, eqb, leb, List, [], ◌∷◌, ◌++◌, length, get_or, take, is_ok, Ok, Err, Result, sym, refl, ap, ◌∙◌, subst, append_assoc, append-nil, arith, length-append, length-take-le}
-use Rattle.std.proofs.lemmas.Bool.{cond-true, cond-false, cases_eq}
+use Rattle.std.proofs.Common.{◌≡◌, ℕ, zero, suc, ◌+◌, ◌-◌, ◌<◌, ◌≤◌, Bool, true, false, cond, eqb, leb, List, [], ◌∷◌, ◌++◌, length, get_or, is_ok, Ok, Err, Result, sym, refl, ap, ◌∙◌, subst, append_assoc, append-nil, arith, length-append, length-take-le}
 use Rattle.std.proofs.lemmas.Bool.Decides.{nat_tests}
 use Rattle.text.specs.declared.mark.Mark.TheVariants.{Dash}
 use Rattle.text.specs.declared.refusal.Layer.TheVariants.{Signature}
@@ -12,7 +11,7 @@ use Rattle.runs.specs.declared.signature.Signature.{Signature as Shape}
 use Rattle.runs.specs.Signatures.{gaps_of, BlankFrom}
 use Rattle.signature.specs.declared.join.Join.{Join}
 use Rattle.signature.specs.Sets.{nothing, Put}
-use Rattle.signature.specs.Slots.{Reads, set_of, end_of}
+use Rattle.signature.specs.Slots.{Reads, end_of}
 use Rattle.signature.specs.Joins.{join_at, no_gap_at}
 use Rattle.signature.specs.Outcomes.{Plan, rest_at, slots_at, Left, answer}
 

@@ -1,8 +1,8 @@
 -- What a write into a list of gaps leaves.
-use Rattle.std.proofs.Common.{◌≡◌, ℕ, zero, suc, ◌+◌, ◌-◌, ◌<◌, ◌≤◌, ◌≢◌, List, [], ◌∷◌, ◌++◌, length, get_or, take, set, sym, refl, ◌∙◌, arith, get_or-set_other}
+use Rattle.std.proofs.Common.{◌≡◌, ℕ, zero, suc, ◌+◌, ◌-◌, ◌<◌, ◌≤◌, ◌≢◌, List, [], ◌∷◌, ◌++◌, length, get_or, take, set, arith, get_or-set_other}
 use Rattle.std.proofs.lemmas.List.{take_more_set}
 use Rattle.runs.specs.declared.gap.Gap.{Gap}
-use Rattle.runs.specs.Gaps.{low, high, no_gap}
+use Rattle.runs.specs.Gaps.{no_gap}
 
 -- what holds of the gap that is written, and of each that was there, holds of each
 pub each_set : (P : Gap → Type 0) (gs : List Gap) (i : ℕ) (g : Gap) (j : ℕ) → P g → P (get_or gs j no_gap) → P (get_or (set gs i g) j no_gap)

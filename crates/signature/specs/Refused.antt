@@ -27,7 +27,7 @@ module _ {R : Type 0} (reads : Reads R) where
   SomeSlot s a b = (set : R → Bool) × SlotText reads s a b set
 
   -- some slot can follow any bytes; a slot is one whatever comes behind it that is no digit; and the bytes before a refusal's place begin some slot
-  pub record Goes_on : Type 0 where
+  pub record GoesOn : Type 0 where
     pub some : (w : List ℕ) → (r : List ℕ) × SomeSlot (w ++ r) (length w) (length (w ++ r))
     pub stays : (s t : List ℕ) (a b : ℕ) (set : R → Bool) → SlotText reads s a b set → take b t ≡ take b s → is_digit (slice_index t b) ≡ false → SlotText reads t a b set
     pub begins : (s : List ℕ) (a : ℕ) (x : Refusal) → a ≤ length s → is_mark Cross s a ≡ false → reads s a ≡ Err x → Begins SomeSlot s a x

@@ -1,4 +1,6 @@
 //! What a gauge is, and how the text of a signature is read with any gauge whose slots are written.
+#![tactic(auto)]
+
 pub mod gauge;
 pub mod join;
 pub mod reader;

@@ -3,7 +3,7 @@ ghost use Rattle.std.specs.Prelude.{◌≡◌, ℕ, ◌+◌, ◌-◌, ◌<◌, �
 ghost use Rattle.runs.specs.Signatures.{gaps_of, Blank, BlankFrom};
 ghost use Rattle.signature.specs.Outcomes.{slots_at, signature_at, Left, answer};
 ghost use Rattle.signature.specs.Grammar.{ReadsExactly, OnePlan, Answers};
-ghost use Rattle.signature.specs.Refused.{Looks, RefusedAlike, Goes_on, BeginsSome};
+ghost use Rattle.signature.specs.Refused.{Looks, RefusedAlike, GoesOn, BeginsSome};
 
 use crate::gauge::{Gauge, WrittenGauge};
 use crate::join::{read_join, refuse_gap};
@@ -17,7 +17,7 @@ const LONGEST: usize = 4096;
 
 // Every slot empty, no slots, and every gap 0 to 0.
 fn clear<G: Gauge>(gauge: &mut G, signature: &mut Signature)
-    ensures empty { (j : ℕ) → j < 32 → (x : G.Reading) → sets gauge.new j x ≡ false }
+    ensures empty { (j : ℕ) → j < 32 → (x : G.Reading) → G.Gauge.sets gauge.new j x ≡ false }
     ensures blank { Blank signature.new }
 {
     for slot in 0..32 {
@@ -90,7 +90,7 @@ pub fn read_signature<G: WrittenGauge>(
     ensures grammar { ReadsExactly G.WrittenGauge.reads text.now }
     ensures one { OnePlan G.WrittenGauge.reads text.now }
     ensures alike { Looks G.WrittenGauge.reads → RefusedAlike G.WrittenGauge.reads text.now }
-    ensures begins { Goes_on G.WrittenGauge.reads → BeginsSome G.WrittenGauge.reads text.now }
+    ensures begins { GoesOn G.WrittenGauge.reads → BeginsSome G.WrittenGauge.reads text.now }
     ensures answers { Answers G.WrittenGauge.reads text.now result (G.Gauge.sets gauge.new) signature.new }
 {
     clear(gauge, signature);

@@ -1,6 +1,5 @@
 -- Where a number, a signed number and a mark end.
-use Rattle.std.proofs.Common.{◌≡◌, ℕ, ◌+◌, ◌<◌, ◌≤◌, Bool, true, false, cond, eqb, leb, ◌⊎◌, List, length, get_or, drop, Ok, Err, sym, refl, ◌∙◌, inl, inr, arith, length-drop}
-use Rattle.std.specs.List.{prefix_len}
+use Rattle.std.proofs.Common.{◌≡◌, ℕ, ◌+◌, ◌<◌, ◌≤◌, true, false, ◌⊎◌, List, length, drop, Ok, Err, inl, inr, arith, length-drop}
 use Rattle.std.proofs.lemmas.List.{get_or_past}
 use Rattle.std.proofs.lemmas.List.Sums.{prefix_len-le-length, prefix_len-drop_all}
 use Rattle.std.proofs.lemmas.Bool.{cases_lt}
@@ -13,7 +12,7 @@ use Rattle.text.specs.declared.refusal.Refusal.TheVariants.{NoDigit}
 use Rattle.text.specs.declared.signed.SignedNumber.{SignedNumber}
 use Rattle.text.specs.Words.{is_digit}
 use Rattle.text.specs.Numbers.{number_at}
-use Rattle.text.specs.Marks.{code_of, is_mark, mark_taken}
+use Rattle.text.specs.Marks.{is_mark, mark_taken}
 use Rattle.text.specs.Signed.{signed_at}
 use Rattle.text.proofs.Marks.{mark_no_digit}
 

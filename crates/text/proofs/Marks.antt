@@ -1,5 +1,5 @@
 -- A byte is a mark just where it is that mark's code, and a digit is none.
-use Rattle.std.proofs.Common.{◌≡◌, ℕ, Bool, true, false, eqb, Some, None, refl, arith}
+use Rattle.std.proofs.Common.{◌≡◌, ℕ, Bool, true, false, eqb, Some, refl, arith}
 use Rattle.std.proofs.lemmas.Bool.Decides.{nat_tests}
 use Rattle.text.specs.declared.mark.Mark.{Mark}
 use Rattle.text.specs.declared.mark.Mark.TheVariants.{Dash, Gap, Open, Comma, Close, ClassOpen, ClassClose, BarredOpen, BarredClose, Colon, Space, Tilde, At, And, Bang}

@@ -1,8 +1,8 @@
 -- What each kind of word says of the text where it stands.
-use Rattle.std.proofs.Common.{◌≡◌, ℕ, suc, ◌<◌, ◌≤◌, Bool, true, false, List, [], ◌∷◌, length, get_or, take, drop, sym, refl, ◌∙◌, arith, drop-cons}
-use Rattle.std.proofs.lemmas.List.Sums.{prefix_len-drop_no, prefix_len-drop_yes}
+use Rattle.std.proofs.Common.{◌≡◌, ℕ, ◌<◌, ◌≤◌, true, List, [], ◌∷◌, length, get_or, take, drop, refl, arith, drop-cons}
+use Rattle.std.proofs.lemmas.List.Sums.{prefix_len-drop_no}
 use Rattle.std.proofs.lemmas.Bool.Decides.{nat_tests}
-use Rattle.text.specs.Words.{Held, digits, mark, end, word_at, is_digit}
+use Rattle.text.specs.Words.{digits, mark, end, word_at, is_digit}
 
 one_byte : (s : List ℕ) (at : ℕ) → at < length s → take 1 (drop at s) ≡ get_or s at 0 ∷ []
 one_byte s at l = rw (drop-cons s at 0) refl

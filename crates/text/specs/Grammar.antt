@@ -1,5 +1,5 @@
 -- The grammar of marks and numbers: what stands in a text from place a up to place b.
-use Rattle.std.specs.Prelude.{◌≡◌, ℕ, ◌+◌, ◌-◌, ◌<◌, ◌≤◌, true, false, List, slice_index, slice_range}
+use Rattle.std.specs.Prelude.{◌≡◌, ℕ, ◌+◌, ◌<◌, ◌≤◌, true, false, List, slice_index, slice_range}
 use Rattle.text.specs.declared.mark.Mark.{Mark}
 use Rattle.text.specs.Words.{is_digit}
 use Rattle.text.specs.Numbers.{value_of}

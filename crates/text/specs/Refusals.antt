@@ -1,5 +1,5 @@
 -- The number, the layer and the place of each refusal, and how one is written.
-use Rattle.std.specs.Prelude.{ℕ, List, [], ◌∷◌, ◌++◌, Ok, Err, codes, decimal, Result}
+use Rattle.std.specs.Prelude.{ℕ, List, ◌++◌, Ok, Err, codes, decimal, Result}
 use Rattle.text.specs.declared.refusal.Layer.{Layer}
 use Rattle.text.specs.declared.refusal.Layer.TheVariants.{Number, Slot, Signature, Record, File}
 use Rattle.text.specs.declared.refusal.Refusal.{Refusal}

@@ -1,4 +1,6 @@
 //! Refusals, and the parts that every text is read by: digit words, numbers, signed numbers and marks.
+#![tactic(auto)]
+
 pub mod lexer;
 pub mod mark;
 pub mod number;

@@ -1,18 +1,20 @@
 //! Runs the three engines over the same random readings and compares their sheets with a plain recomputation.
+#![tactic(auto)]
+
 mod plain;
 mod random;
 
 use engines::engine::Engine;
+use engines::mask::Masks;
+use engines::ring::Ring;
+use engines::word::Word;
 use gauges::event::Event;
-use mask::Masks;
 use plain::plain_sheet;
 use random::Random;
-use ring::Ring;
 use runs::signature::Signature;
 use search::searching::search;
 use signature::reader::read_signature;
 use std::alloc::{AllocError, Global};
-use word::Word;
 
 /// What came of the trials so far.
 #[derive(Clone, Copy)]
@@ -59,10 +61,10 @@ fn counted(tally: Tally, outcome: Option<bool>) -> Tally {
 fn compared(
     heap: Global,
     random: &mut Random,
-    text: &str,
     length: u32,
     tally: Tally,
 ) -> Result<Tally, AllocError> {
+    let text = random.signature_text(heap)?;
     let readings = random.readings(heap, length)?;
     let mut gauge = Event::new();
     let mut signature = Signature::new();
@@ -77,41 +79,16 @@ fn compared(
     Ok(counted(counted(counted(tally, ring), mask), word))
 }
 
-// Lists of every length up to 200, each with a signature of its own.
-fn each_length(heap: Global, random: &mut Random, tally: Tally) -> Result<Tally, AllocError> {
-    let mut tally = tally;
-    for length in 1..200 {
-        let text = random.signature_text(heap)?;
-        tally = compared(heap, random, text.as_str(), length, tally)?;
-    }
-    Ok(tally)
-}
-
-// Lists that end about whole strips of 64 places, with the farthest gaps and with any.
-fn about_strips(heap: Global, random: &mut Random, tally: Tally) -> Result<Tally, AllocError> {
-    let mut tally = tally;
-    for strips in 1..4 {
-        for length in 64 * strips - 3..64 * strips + 4 {
-            for _ in 0..4 {
-                let far = random.far_signature_text(heap)?;
-                tally = compared(heap, random, far.as_str(), length, tally)?;
-                let text = random.signature_text(heap)?;
-                tally = compared(heap, random, text.as_str(), length, tally)?;
-            }
-        }
-    }
-    Ok(tally)
-}
-
 fn run(rt: &HostRuntime) -> anyhow::Result<()> {
     let mut random = Random::new(2026);
-    let tally = Tally {
+    let mut tally = Tally {
         alike: 0,
         unlike: 0,
         refused: 0,
     };
-    let tally = each_length(rt.alloc(), &mut random, tally)?;
-    let tally = about_strips(rt.alloc(), &mut random, tally)?;
+    for length in 1..200 {
+        tally = compared(rt.alloc(), &mut random, length, tally)?;
+    }
     let alike = tally.alike;
     let unlike = tally.unlike;
     let refused = tally.refused;

@@ -59,18 +59,6 @@ impl Random {
         Ok(text)
     }
 
-    /// A signature of 2 to 4 slots whose gaps all have 63 places.
-    pub(crate) fn far_signature_text(&mut self, heap: Global) -> Result<String, AllocError> {
-        let mut text = String::new(heap);
-        self.push_slot(heap, &mut text)?;
-        let gaps = self.below(3) + 1;
-        for _ in 0..gaps {
-            text.push_str("-x(63,63)-")?;
-            self.push_slot(heap, &mut text)?;
-        }
-        Ok(text)
-    }
-
     /// Readings below 5.
     pub(crate) fn readings(&mut self, heap: Global, length: u32) -> Result<Vec<u8>, AllocError> {
         let mut readings = Vec::new(heap);

@@ -1,4 +1,5 @@
 //! The engine that keeps its whole memory in one word.
+#![tactic(auto)]
 ghost use Rattle.std.specs.Prelude.{◌≡◌, ℕ, false};
 ghost use Rattle.runs.specs.Signatures.{gaps_of, Blank};
 ghost use Rattle.word.specs.Fields.{fields_say};

@@ -6,5 +6,5 @@ use Rattle.engines.proofs.shape.gap_at.Goals as goal
 
 pub returns-else-j-gaps : goal.returns-else-j-gaps
 returns-else-j-gaps c =
-    let gaps = c.used-gaps-gaps.result.now in
-    sym (ap (λ (gs : List Gap). get_or gs c.args.j no_gap) (sym c.used-gaps-gaps.ensures) ∙ get_or_past gaps c.args.j no_gap c.if-j-gaps.false)
+    let gaps = c.used_gaps-gaps.result.now in
+    sym (ap (λ (gs : List Gap). get_or gs c.args.j no_gap) (sym c.used_gaps-gaps.ensures) ∙ get_or_past gaps c.args.j no_gap c.if-j-gaps.false)

@@ -1,4 +1,4 @@
-use Rattle.std.proofs.Common.{◌≡◌, ℕ, ◌<◌, ◌≤◌, false, not, length, get_or}
+use Rattle.std.proofs.Common.{◌≡◌, ℕ, ◌<◌, ◌≤◌, false, not, get_or}
 use Rattle.gauges.proofs.codes.turn.Given as goal
 
 abbrev pub invariant-loop-has : goal.invariant-loop-has

@@ -1,6 +1,5 @@
-use Rattle.std.proofs.Common.{◌≡◌, ◌/◌, ◌^◌, eqb, ap}
+use Rattle.std.proofs.Common.{◌/◌, ◌^◌, eqb, ap}
 use Rattle.std.proofs.lemmas.Nat.{and_mask}
-use Rattle.runs.specs.Bits.{bit}
 use Rattle.gauges.proofs.event.is_on.Goals as goal
 
 pub returns : goal.returns

@@ -1,4 +1,4 @@
-use Rattle.std.proofs.Common.{◌≡◌, ℕ, ◌<◌, ◌≤◌, false, cond, eqb, length, get_or}
+use Rattle.std.proofs.Common.{◌≡◌, ℕ, ◌<◌, ◌≤◌, false, cond, eqb, get_or}
 use Rattle.runs.specs.Bits.{bit}
 use Rattle.gauges.proofs.event.mark_codes.Given as goal
 

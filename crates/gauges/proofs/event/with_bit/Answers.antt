@@ -1,7 +1,7 @@
-use Rattle.std.proofs.Common.{◌≡◌, ℕ, ◌+◌, ◌*◌, ◌/◌, ◌%◌, ◌^◌, ◌<◌, Bool, true, false, cond, not, eqb, sym, refl, ap, ◌∙◌, subst, arith}
+use Rattle.std.proofs.Common.{◌≡◌, Bool, true, false, not, sym, refl, ap, ◌∙◌, arith}
 use mathlib.Core.Bool.{beq}
-use lib.Bits.{bit_and, bit_xor}
-use Rattle.std.proofs.lemmas.Nat.{and_mask, one_shl}
+use lib.Bits.{bit_xor}
+use Rattle.std.proofs.lemmas.Nat.{one_shl}
 use Rattle.std.proofs.lemmas.Bool.Decides.{nat_tests}
 use Rattle.runs.specs.Bits.{bit}
 use Rattle.gauges.proofs.Flips.{flip}
@@ -13,9 +13,9 @@ other false true h = refl
 other true true h = absurd (grind arith)
 other false false h = absurd (grind arith)
 
-pub returns-else-is-on-on : goal.returns-else-is-on-on
-returns-else-is-on-on c j =
-    let e = ap not (sym c.is-on.ensures) ∙ other _ _ c.if-is-on-on.false in
+pub returns-else-is_on-on : goal.returns-else-is_on-on
+returns-else-is_on-on c j =
+    let e = ap not (sym c.is_on.ensures) ∙ other _ _ c.if-is_on-on.false in
     let d : j ≡ c.args.slot → bit c.args.entry j ≡ bit c.args.entry c.args.slot = ap (bit c.args.entry) in
     let f = ap (λ b. bit (bit_xor c.args.entry b) j) (one_shl c.args.slot 32 (omega arith)) ∙ flip c.args.entry c.args.slot j in
     f ∙ grind (arith, nat_tests, d)

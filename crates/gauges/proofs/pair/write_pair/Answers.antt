@@ -7,6 +7,6 @@ returns-in-Err g c =
     let slot = c.args.slot in
     record {
       value = told.value;
-      left = emptied slot _ _ _ _ (left_none slot c.args.at _ _ told.value) told.others.0 c.empty-pair.ensures.left;
-      right = emptied slot _ _ _ _ (right_none slot c.args.at _ _ told.value) told.others.1 c.empty-pair.ensures.right;
+      left = emptied slot _ _ _ _ (left_none slot c.args.at _ _ told.value) told.others.0 c.empty_pair.ensures.left;
+      right = emptied slot _ _ _ _ (right_none slot c.args.at _ _ told.value) told.others.1 c.empty_pair.ensures.right;
     }

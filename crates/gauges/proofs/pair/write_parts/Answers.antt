@@ -3,10 +3,10 @@ use Rattle.std.proofs.lemmas.Result.{err_from_is_err_and}
 use Rattle.gauges.specs.PairsLemmas.{written, refused_left, refused_mark, end_right, sets_read, put_as, kept_put}
 use Rattle.gauges.proofs.pair.write_parts.Goals as goal
 
-pub returns-in-err-middle : goal.returns-in-err-middle
-returns-in-err-middle g c =
-    let p = err_from_is_err_and c.from-residual.result c.from-residual.ensures.1 in
-    let told = c.in-err-middle.ensures in
+pub returns-in_err-middle : goal.returns-in_err-middle
+returns-in_err-middle g c =
+    let p = err_from_is_err_and c.from_residual.result c.from_residual.ensures.1 in
+    let told = c.in_err-middle.ensures in
     let value = refused_left c.args.mark g.L.WrittenGauge.reads g.R.WrittenGauge.reads c.args.text.now c.args.slot c.args.at _ told.value in
     rw (p.1, p.2) (record {
       value = value;
@@ -15,14 +15,14 @@ returns-in-err-middle g c =
       others = (kept_put _ _ _ _ told.wrote, λ j l ne x. refl);
     })
 
-pub returns-in-err-next : goal.returns-in-err-next
-returns-in-err-next g c =
+pub returns-in_err-next : goal.returns-in_err-next
+returns-in_err-next g c =
     let l = g.L.WrittenGauge.reads in
     let s = c.args.text.now in
-    let p = err_from_is_err_and c.from-residual-in-err-next.result c.from-residual-in-err-next.ensures.1 in
-    let told = c.in-ok-middle.ensures in
-    let (few, (v, from)) = written c.args.slot c.args.at (l s c.args.at) c.in-ok-middle.middle told.value in
-    let value = refused_mark c.args.mark l g.R.WrittenGauge.reads s c.args.slot c.args.at c.in-ok-middle.middle v few from _ (sym c.in-err-next.ensures.value) in
+    let p = err_from_is_err_and c.from_residual-in_err-next.result c.from_residual-in_err-next.ensures.1 in
+    let told = c.in_ok-middle.ensures in
+    let (few, (v, from)) = written c.args.slot c.args.at (l s c.args.at) c.in_ok-middle.middle told.value in
+    let value = refused_mark c.args.mark l g.R.WrittenGauge.reads s c.args.slot c.args.at c.in_ok-middle.middle v few from _ (sym c.in_err-next.ensures.value) in
     rw (p.1, p.2) (record {
       value = value;
       left = λ ok. absurd (grind arith);
@@ -38,12 +38,12 @@ returns g c =
     let at = c.args.at in
     let l = g.L.WrittenGauge.reads in
     let r = g.R.WrittenGauge.reads in
-    let middle = c.in-ok-middle.middle in
-    let told = c.in-ok-middle.ensures in
+    let middle = c.in_ok-middle.middle in
+    let told = c.in_ok-middle.ensures in
     let (few, (v, from)) = written slot at (l s at) middle told.value in
-    let marked = sym c.in-ok-next.ensures.value in
-    let next = c.in-ok-next.next in
-    let last = c.write-slot-2.ensures in
+    let marked = sym c.in_ok-next.ensures.value in
+    let next = c.in_ok-next.next in
+    let last = c.write_slot-2.ensures in
     record {
       value = last.value ∙ end_right mark l r s slot at middle v few from next marked;
       left = λ ok. put_as slot _ _ _ _ (sets_read mark l r s slot at middle v few from next marked _ last.value ok).0 told.wrote;

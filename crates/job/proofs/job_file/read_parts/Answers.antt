@@ -7,8 +7,8 @@ use Rattle.job.proofs.job_file.read_parts.Goals as goal
 pub returns : goal.returns
 returns c =
     let s = c.args.file.now in
-    let t : c.from-text.result ≡ text_length s = c.from-text.ensures ∙ c.from-le-bytes.ensures in
-    let n : c.from-codes.result ≡ code_count s = c.from-codes.ensures ∙ c.from-le-bytes-2.ensures in
+    let t : c.from-text.result ≡ text_length s = c.from-text.ensures ∙ c.from_le_bytes.ensures in
+    let n : c.from-codes.result ≡ code_count s = c.from-codes.ensures ∙ c.from_le_bytes-2.ensures in
     let all : (8 + c.from-text.result) + c.from-codes.result ≡ length s = c.if-text-codes.false in
     let end = 8 + c.from-text.result in
     let long : end - 8 ≡ text_length s = omega arith in

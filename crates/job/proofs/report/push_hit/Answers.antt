@@ -1,4 +1,4 @@
-use Rattle.std.proofs.Common.{◌≡◌, ℕ, ◌-◌, ◌≤◌, List, ◌++◌, length, take, replicate, string_bytes, codes, decimal, sym, refl, ap, ◌∙◌, append_assoc, arith}
+use Rattle.std.proofs.Common.{◌≡◌, ℕ, ◌-◌, ◌≤◌, List, ◌++◌, take, replicate, string_bytes, codes, decimal, ap, ◌∙◌, append_assoc, arith}
 use Rattle.search.specs.Traces.{trace_of}
 use Rattle.search.proofs.Listed.{listed}
 use Rattle.job.specs.Printed.{spaced}
@@ -14,7 +14,7 @@ returns c =
     let whole : s.slots - 0 ≡ s.slots = omega arith in
     let is : take (s.slots - 0) c.trace.new.places ≡ places =
     ap (λ (n : ℕ). take n c.trace.new.places) whole ∙ ap (λ (ps : List ℕ). take s.slots ps) c.trace.ensures.places ∙ listed s c.args.sheet.now c.args.end (replicate 32 0) c.requires few in
-    let one : string_bytes c.push-str.new.self ≡ old ++ head = c.in-ok-push-str.ensures.bytes ∙ ap (λ (t : List ℕ). old ++ t) (c.as-str.ensures.value ∙ c.in-ok-format.ensures.ok) in
-    let two : string_bytes c.push-places.new.text ≡ (old ++ head) ++ spaced places = c.in-ok-push-places.ensures ∙ ap (λ (ps : List ℕ). string_bytes c.push-str.new.self ++ spaced ps) is ∙ ap (λ (t : List ℕ). t ++ spaced places) one in
-    let three : string_bytes c.push-str-2.new.self ≡ string_bytes c.push-places.new.text ++ codes "\n" = c.in-ok-push-str-2.ensures.bytes in
+    let one : string_bytes c.push_str.new.self ≡ old ++ head = c.in_ok-push_str.ensures.bytes ∙ ap (λ (t : List ℕ). old ++ t) (c.as_str.ensures.value ∙ c.in_ok-format.ensures.ok) in
+    let two : string_bytes c.push_places.new.text ≡ (old ++ head) ++ spaced places = c.in_ok-push_places.ensures ∙ ap (λ (ps : List ℕ). string_bytes c.push_str.new.self ++ spaced ps) is ∙ ap (λ (t : List ℕ). t ++ spaced places) one in
+    let three : string_bytes c.push_str-2.new.self ≡ string_bytes c.push_places.new.text ++ codes "\n" = c.in_ok-push_str-2.ensures.bytes in
     three ∙ ap (λ (t : List ℕ). t ++ codes "\n") two ∙ append_assoc (old ++ head) (spaced places) (codes "\n") ∙ append_assoc old head (spaced places ++ codes "\n")

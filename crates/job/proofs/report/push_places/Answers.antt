@@ -9,7 +9,7 @@ loop-place-preserved c =
     let i = c.loop-place.place-index in
     let word : List ℕ = codes " " ++ decimal (get_or ps i 0) in
     let more : spaced (drop i ps) ≡ word ++ spaced (drop (i + 1) ps) = at_drop_more spaced ps i 0 c.loop-place-test.true in
-    let pushed : string_bytes c.push-str.new.self ≡ string_bytes c.loop-place.text ++ word = search rules in
+    let pushed : string_bytes c.push_str.new.self ≡ string_bytes c.loop-place.text ++ word = search rules in
     ap (λ (t : List ℕ). t ++ spaced (drop (i + 1) ps)) pushed ∙ append_assoc (string_bytes c.loop-place.text) word (spaced (drop (i + 1) ps)) ∙ ap (λ (t : List ℕ). string_bytes c.loop-place.text ++ t) (sym more) ∙ c.loop-place.invariant
 
 pub returns : goal.returns

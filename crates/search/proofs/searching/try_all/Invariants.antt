@@ -1,4 +1,4 @@
-use Rattle.std.proofs.Common.{◌≡◌, ℕ, ◌<◌, length, get_or}
+use Rattle.std.proofs.Common.{◌≡◌, ℕ, ◌<◌, get_or}
 use Rattle.std.specs.List.{slice_get}
 use Rattle.runs.specs.Bits.{bit}
 use Rattle.runs.specs.Runs.{among}

@@ -1,4 +1,4 @@
-use Rattle.std.proofs.Common.{◌≡◌, ℕ, ◌/◌, ◌^◌, eqb, ap}
+use Rattle.std.proofs.Common.{ℕ, ◌/◌, ◌^◌, eqb, ap}
 use Rattle.std.proofs.lemmas.Nat.{and_mask}
 use Rattle.search.proofs.sheet.bears.Goals as goal
 

@@ -1,4 +1,4 @@
-use Rattle.std.proofs.Common.{◌≡◌, ℕ, ◌≤◌, take}
+use Rattle.std.proofs.Common.{◌≡◌, ◌≤◌, take}
 use Rattle.search.specs.Sheets.{bearing}
 use Rattle.search.proofs.sheet.count_marked.Given as goal
 

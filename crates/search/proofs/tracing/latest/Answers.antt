@@ -1,8 +1,7 @@
-use Rattle.std.proofs.Common.{◌≡◌, ℕ, suc, ◌+◌, ◌-◌, ◌<◌, ◌≤◌, true, false, ◌⊎◌, List, get_or, sym, refl, ap, ◌∙◌, subst, inl, inr, arith, get_or-take}
-use Rattle.runs.specs.declared.gap.Gap.{Gap}
+use Rattle.std.proofs.Common.{◌≡◌, ℕ, suc, ◌-◌, ◌<◌, true, false, get_or, sym, ap, ◌∙◌, subst, arith, get_or-take}
 use Rattle.runs.specs.declared.signature.Signature.{Signature}
 use Rattle.runs.specs.Bits.{bit}
-use Rattle.runs.specs.Gaps.{low, high, no_gap}
+use Rattle.runs.specs.Gaps.{no_gap}
 use Rattle.runs.specs.Signatures.{gaps_of}
 use Rattle.runs.proofs.Steps.{at_top}
 use Rattle.runs.proofs.Places.{before_found, before_none}

@@ -1,4 +1,4 @@
-use Rattle.std.proofs.Common.{◌≡◌, ℕ, ◌-◌, ◌<◌, ◌≤◌, ◌≢◌, length, get_or, set, Ok, refl, ap, ◌∙◌, arith, length-set, get_or-set_other}
+use Rattle.std.proofs.Common.{◌≡◌, ◌-◌, ◌<◌, ◌≢◌, length, Ok, refl, ap, ◌∙◌, arith, length-set, get_or-set_other}
 use Rattle.std.proofs.lemmas.Bool.Decides.{nat_tests}
 use Rattle.search.specs.Traces.{trace_of, tracing, places_from}
 use Rattle.search.proofs.Filled.{filled}
@@ -8,7 +8,7 @@ use Rattle.search.proofs.tracing.trace.Goals.{Else-places-slots}
 
 -- where a hit ends there is a slot
 some : (c : goal.Else-places-slots) → 0 < c.args.signature.now.slots
-some c = let hit = c.if-not-is-hit.ensures in grind (arith, nat_tests)
+some c = let hit = c.if-not-is_hit.ensures in grind (arith, nat_tests)
 
 pub loop-slot-init : goal.loop-slot-init
 loop-slot-init c = (written_end c.args.signature.now c.args.sheet.now c.args.end (some c) c.args.places.now c.if-places-slots.false, λ k l. refl)
@@ -36,7 +36,7 @@ returns c =
     let end = c.args.end in
     let old = c.args.places.now in
     let m = some (goal.at.returns c).Else-places-slots in
-    let hit = c.if-not-is-hit.ensures in
+    let hit = c.if-not-is_hit.ensures in
     let size = length-set old (s.slots - 1) end in
     let is : Ok tt ≡ tracing s sheet end (length old) = grind (arith, nat_tests) in
     let full = filled (trace_of s sheet end) old c.loop-slot.places s.slots (trace_size s sheet end m) c.if-places-slots.false (omega arith)

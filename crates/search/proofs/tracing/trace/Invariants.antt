@@ -1,4 +1,4 @@
-use Rattle.std.proofs.Common.{◌≡◌, ℕ, ◌-◌, ◌<◌, ◌≤◌, get_or}
+use Rattle.std.proofs.Common.{◌≡◌, ℕ, ◌<◌, ◌≤◌, get_or}
 use Rattle.runs.specs.Runs.{place}
 use Rattle.search.specs.Traces.{trace_of}
 use Rattle.search.proofs.tracing.trace.Given as goal

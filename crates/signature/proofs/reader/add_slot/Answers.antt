@@ -1,23 +1,19 @@
-use Rattle.std.proofs.Common.{◌≡◌, ℕ, ◌-◌, ◌≤◌, refl, ap, ◌∙◌, arith, length-set}
-use Rattle.runs.specs.Gaps.{no_gap}
+use Rattle.std.proofs.Common.{◌-◌, ◌≤◌, refl, ap, ◌∙◌, arith, length-set}
 use Rattle.signature.proofs.Written.{each_set, take_set, past_set}
 use Rattle.signature.proofs.reader.add_slot.Goals as goal
 
-pub invariant-of-signature : goal.invariant-of-signature
-invariant-of-signature c =
+pub invariant_of-signature : goal.invariant_of-signature
+invariant_of-signature c =
     let s = c.args.signature.now in
     let gs = s.gaps in
     let i = s.slots - 1 in
-    let g = c.args.gap in (
-      omega (arith, c.requires.room),
-      (
-        simp length-set s.long,
-        (
-          (λ j l. each_set (λ x. x.lo ≤ x.hi) gs i g j c.requires.ordered (s.ordered j l)),
-          ((λ j l. each_set (λ x. x.hi ≤ 63) gs i g j c.requires.narrow (s.narrow j l)), tt),
-        ),
-      ),
-    )
+    let g = c.args.gap in
+    record {
+      few = omega (arith, c.requires.room);
+      long = simp length-set s.long;
+      ordered = λ j l. each_set (λ x. x.lo ≤ x.hi) gs i g j c.requires.ordered (s.ordered j l);
+      narrow = λ j l. each_set (λ x. x.hi ≤ 63) gs i g j c.requires.narrow (s.narrow j l);
+    }
 
 pub returns : goal.returns
 returns c =

@@ -5,7 +5,7 @@ use Rattle.signature.proofs.reader.clear.Goals as goal
 
 pub loop-slot-preserved : goal.loop-slot-preserved
 loop-slot-preserved g c j l m x =
-    let put = c.empty-slot.ensures j m x in
+    let put = c.empty_slot.ensures j m x in
     let before = λ (b : j < c.loop-slot.slot). c.loop-slot.invariant j b m x in
     let split = cases_eq j c.loop-slot.slot in
     grind (arith, nat_tests)

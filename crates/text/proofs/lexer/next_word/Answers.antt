@@ -6,5 +6,5 @@ use Rattle.text.proofs.lexer.next_word.Goals as goal
 
 pub returns-else-count-eq0 : goal.returns-else-count-eq0
 returns-else-count-eq0 c =
-    let all : (c.args.at + c.count-digits-count.result) - c.args.at ≡ prefix_len is_digit (drop c.args.at c.args.text.now) = omega (arith, c.count-digits-count.ensures.value) in
+    let all : (c.args.at + c.count_digits-count.result) - c.args.at ≡ prefix_len is_digit (drop c.args.at c.args.text.now) = omega (arith, c.count_digits-count.ensures.value) in
     grind (arith, nat_tests)

@@ -1,4 +1,4 @@
-use Rattle.std.proofs.Common.{◌≡◌, true, get_or, Some, arith, rules}
+use Rattle.std.proofs.Common.{◌≡◌, get_or, arith, rules}
 use Rattle.std.proofs.lemmas.List.{get_or_past}
 use Rattle.std.proofs.lemmas.Bool.Decides.{nat_tests}
 use Rattle.text.specs.Marks.{mark_of}
@@ -11,7 +11,7 @@ returns-in-Mark c =
     let s = c.args.text.now in
     let at = c.args.at in
     let here = at_mark s at _ _ c.in-Mark.ensures in
-    let is : c.read-mark.result ≡ mark_of (get_or s at 0) = rw here.1 at c.read-mark.ensures in
+    let is : c.read_mark.result ≡ mark_of (get_or s at 0) = rw here.1 at c.read_mark.ensures in
     record {
       value = tests_code (get_or s at 0) c.args.wanted c.eq.result (λ t. search rules) (λ e. search rules);
       inside = λ _. here.0;

@@ -29,8 +29,8 @@ told c =
       inside = grind (arith, nat_tests);
     }
 
-pub value-within-requires : goal.value-within-requires
-value-within-requires c = let t = told c in λ k h. grind (arith, front_passes, get_or-take)
+pub value_within-requires : goal.value_within-requires
+value_within-requires c = let t = told c in λ k h. grind (arith, front_passes, get_or-take)
 
 pub returns-in-Some : goal.returns-in-Some
 returns-in-Some c =

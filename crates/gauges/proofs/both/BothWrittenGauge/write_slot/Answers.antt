@@ -6,12 +6,12 @@ use Rattle.gauges.proofs.both.BothWrittenGauge.write_slot.Goals as goal
 
 pub returns : goal.returns
 returns g c =
-    let told = c.write-pair.ensures in
+    let told = c.write_pair.ensures in
     let slot = c.args.slot in
     let at = c.args.at in
     let parts = parts_at And g.L.WrittenGauge.reads g.R.WrittenGauge.reads c.args.text.now at in
     let self = c.args.self.now in
     record {
       value = told.value ∙ end_joined meet slot at parts;
-      wrote = put_joined meet (λ x. refl) slot parts (g.L.Gauge.sets self.left) (g.L.Gauge.sets c.write-pair.new.left) (g.R.Gauge.sets self.right) (g.R.Gauge.sets c.write-pair.new.right) told.left told.right;
+      wrote = put_joined meet (λ x. refl) slot parts (g.L.Gauge.sets self.left) (g.L.Gauge.sets c.write_pair.new.left) (g.R.Gauge.sets self.right) (g.R.Gauge.sets c.write_pair.new.right) told.left told.right;
     }

@@ -10,4 +10,4 @@ loop-slot-preserved c j =
     let x = c.args.reading.now in
     let slot = c.loop-slot.slot in
     let f : SFits w32 x = search rules in
-    c.with-bit-word.ensures j ∙ slot_more bands x slot j _ _ (c.takes.ensures ∙ ap (banded bands slot) (to_z-of_z w32 x f)) (c.loop-slot.invariant j)
+    c.with_bit-word.ensures j ∙ slot_more bands x slot j _ _ (c.takes.ensures ∙ ap (banded bands slot) (to_z-of_z w32 x f)) (c.loop-slot.invariant j)

@@ -1,0 +1,6 @@
+use Rattle.std.proofs.Common.{ap}
+use Rattle.engines.specs.declared.windows.Windows.{Windows}
+use Rattle.engines.proofs.mask.MasksEngine.step.Goals as goal
+
+pub returns : goal.returns
+returns c = record { shape = ap (λ (w : Windows). w.signature) c.push.ensures.windows; word = c.word-word.ensures; memory = c.push.ensures.memory }

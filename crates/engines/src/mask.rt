@@ -1,0 +1,101 @@
+//! The engine that keeps one mask of 64 places for each slot.
+ghost use Rattle.std.specs.Prelude.{◌≡◌, ℕ, false};
+ghost use Rattle.runs.specs.Signatures.{Blank};
+ghost use Rattle.engines.specs.Masked.{masks_say};
+ghost use Rattle.engines.specs.Memory.{Stepped, Moved};
+
+use crate::engine::Engine;
+use crate::shape::gap_at;
+use crate::windows::Windows;
+use runs::gap::Gap;
+use runs::signature::Signature;
+
+/// Bit d of `masks[j]` says whether a run of the first j + 1 slots ended d places before the latest: it takes every signature.
+#[derive(Drop)]
+pub struct Masks {
+    windows: Windows,
+    masks: [u64; 31],
+}
+
+impl Masks {
+    /// An engine with no slots.
+    pub fn new() -> Masks
+        ensures shape { Blank result.windows.signature }
+        ensures memory { (j d : ℕ) → masks_say result.masks j d ≡ false }
+    {
+        let masks = [0; 31];
+        Masks {
+            windows: Windows::new(&Signature::new()),
+            masks,
+        }
+    }
+
+    // The mark word of the next place.
+    fn word(&self, fits: u32) -> u32
+        ensures { Stepped self.now.windows.signature (masks_say self.now.masks) fits result }
+    {
+        let mut word = fits & 1;
+        let mut left = fits & self.windows.later;
+        while left != 0 {
+            let j = left.trailing_zeros() as usize;
+            left &= left - 1;
+            if self.masks[j - 1] & self.windows.allowed[j - 1] != 0 {
+                word |= 1 << j;
+            }
+        }
+        word
+    }
+
+    // Each mask moves by one place, and takes its bit of `word`.
+    fn push(&mut self, word: u32)
+        ensures windows { self.new.windows ≡ self.old.windows }
+        ensures memory { Moved self.old.windows.signature (masks_say self.old.masks) word (masks_say self.new.masks) }
+    {
+        for j in 0..self.windows.signature.used_gaps().len() {
+            self.masks[j] = (self.masks[j] << 1) | ((word >> j) & 1) as u64;
+        }
+    }
+}
+
+impl Engine for Masks {
+    const LIMIT: u32 = 1985;
+
+    ghost limit = { 1985 };
+
+    ghost shape = { λ e. e.windows.signature };
+
+    ghost says = { λ e. masks_say e.masks };
+
+    fn greatest() -> u32 {
+        Self::LIMIT
+    }
+
+    fn make(&mut self, signature: &Signature) {
+        *self = Masks {
+            windows: Windows::new(signature),
+            masks: [0; 31],
+        };
+    }
+
+    fn step(&mut self, fits: u32) -> u32 {
+        let word = self.word(fits);
+        self.push(word);
+        word
+    }
+
+    fn resume(&mut self, words: &[u32]) {
+        self.masks = [0; 31];
+        let from = words.len().saturating_sub(64);
+        for word in &words[from..] {
+            self.push(*word);
+        }
+    }
+
+    fn slots(&self) -> u32 {
+        self.windows.signature.slots
+    }
+
+    fn gap(&self, j: u32) -> Gap {
+        gap_at(&self.windows.signature, j)
+    }
+}

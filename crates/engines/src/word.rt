@@ -1,0 +1,96 @@
+//! The engine that keeps its whole memory in one word.
+ghost use Rattle.std.specs.Prelude.{◌≡◌, ℕ, false};
+ghost use Rattle.runs.specs.Signatures.{gaps_of, Blank};
+ghost use Rattle.engines.specs.Fields.{fields_say};
+ghost use Rattle.engines.specs.Memory.{Moved};
+
+use crate::engine::Engine;
+use crate::layout::Layout;
+use crate::shape::gap_at;
+use runs::gap::Gap;
+use runs::signature::Signature;
+
+/// For each gap one field of bits: it takes signatures that reach 64 places at most.
+#[derive(Drop)]
+pub struct Word {
+    layout: Layout,
+    memory: u64,
+}
+
+impl Word {
+    /// An engine with no slots.
+    pub fn new() -> Word
+        ensures shape { Blank result.layout.signature }
+        ensures memory { (j d : ℕ) → fields_say (gaps_of result.layout.signature) result.memory j d ≡ false }
+    {
+        let layout = Layout::new(&Signature::new());
+        Word { layout, memory: 0 }
+    }
+
+    // Each field moves by one place, and takes its bit of `word`.
+    fn push(&mut self, word: u32)
+        ensures layout { self.new.layout ≡ self.old.layout }
+        ensures memory { Moved self.old.layout.signature (fields_say (gaps_of self.old.layout.signature) self.old.memory) word (fields_say (gaps_of self.new.layout.signature) self.new.memory) }
+    {
+        let mut memory = (self.memory & self.layout.keep) << 1;
+        for j in 0..self.layout.signature.used_gaps().len() {
+            if (word >> j) & 1 == 1 {
+                memory |= self.layout.starts[j];
+            }
+        }
+        self.memory = memory;
+    }
+}
+
+impl Engine for Word {
+    const LIMIT: u32 = 64;
+
+    ghost limit = { 64 };
+
+    ghost shape = { λ e. e.layout.signature };
+
+    ghost says = { λ e. fields_say (gaps_of e.layout.signature) e.memory };
+
+    fn greatest() -> u32 {
+        Self::LIMIT
+    }
+
+    fn make(&mut self, signature: &Signature) {
+        *self = Word {
+            layout: Layout::new(signature),
+            memory: 0,
+        };
+    }
+
+    fn step(&mut self, fits: u32) -> u32 {
+        let mut word = fits & 1;
+        let mut memory = ((self.memory & self.layout.keep) << 1) | word as u64;
+        let mut left = fits & self.layout.later;
+        while left != 0 {
+            let j = left.trailing_zeros() as usize;
+            left &= left - 1;
+            if self.memory & self.layout.windows[j - 1] != 0 {
+                word |= 1 << j;
+                memory |= self.layout.starts[j];
+            }
+        }
+        self.memory = memory;
+        word
+    }
+
+    fn resume(&mut self, words: &[u32]) {
+        self.memory = 0;
+        let from = words.len().saturating_sub(64);
+        for word in &words[from..] {
+            self.push(*word);
+        }
+    }
+
+    fn slots(&self) -> u32 {
+        self.layout.signature.slots
+    }
+
+    fn gap(&self, j: u32) -> Gap {
+        gap_at(&self.layout.signature, j)
+    }
+}
