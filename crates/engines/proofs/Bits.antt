@@ -8,13 +8,13 @@ use Rattle.std.proofs.lemmas.Bool.{cases_lt, cases_eq, eqb-true, eqb-false, eq-e
 use Rattle.runs.specs.Bits.{bit}
 
 -- the bit as a number
-abbrev digit : ℕ → ℕ → ℕ
+abbrev pub digit : ℕ → ℕ → ℕ
 digit w j = w / 2 ^ j % 2
 
-one : (w j : ℕ) → bit w j ≡ true → digit w j ≡ 1
+pub one : (w j : ℕ) → bit w j ≡ true → digit w j ≡ 1
 one w j = eqb-true (digit w j) 1
 
-naught : (w j : ℕ) → bit w j ≡ false → digit w j ≡ 0
+pub naught : (w j : ℕ) → bit w j ≡ false → digit w j ≡ 0
 naught w j e = let ne = eqb-false (digit w j) 1 e in ⊎_elim (λ (q : digit w j ≡ 1). absurd (ne q)) (λ (q : digit w j ≡ 1 → ⊥). omega arith) (cases_eq (digit w j) 1)
 
 is_one : (w j : ℕ) → digit w j ≡ 1 → bit w j ≡ true
@@ -23,7 +23,7 @@ is_one w j = eq-eqb (digit w j) 1
 is_naught : (w j : ℕ) → digit w j ≡ 0 → bit w j ≡ false
 is_naught w j e = ne_eqb (digit w j) 1 (λ q. omega arith)
 
-same : (v w i j : ℕ) → digit v i ≡ digit w j → bit v i ≡ bit w j
+pub same : (v w i j : ℕ) → digit v i ≡ digit w j → bit v i ≡ bit w j
 same v w i j e = ap (λ n. eqb n 1) e
 
 -- the test of a bit, as code writes it
@@ -41,7 +41,7 @@ pub bit_zero : (j : ℕ) → bit 0 j ≡ false
 bit_zero j = bit_high 0 j 0 (omega arith) (omega arith)
 
 -- the bits of both, and of either
-digit_and : (a b j : ℕ) → digit (bit_and a b) j ≡ min (digit a j) (digit b j)
+pub digit_and : (a b j : ℕ) → digit (bit_and a b) j ≡ min (digit a j) (digit b j)
 digit_and a b j = ap (λ n. n % 2) (and_shr a b j) ∙ omega (arith, and_step (a / 2 ^ j) (b / 2 ^ j))
 
 digit_or : (a b j : ℕ) → digit (bit_or a b) j ≡ max (digit a j) (digit b j)

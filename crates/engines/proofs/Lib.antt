@@ -9,3 +9,13 @@ pub mod Fields
 pub mod Laid
 pub mod Masked
 pub mod Rings
+pub mod Shifts
+pub mod Smears
+pub mod Marks
+pub mod Swaps
+pub mod Tables
+pub mod Stages
+pub mod Turns
+pub mod Packed
+pub mod Chained
+pub mod Joined

@@ -3,3 +3,8 @@ pub mod Blocks
 pub mod Fields
 pub mod Masked
 pub mod Rings
+pub mod Windows
+pub mod Marks
+pub mod Turns
+pub mod Rows
+pub mod Strips

@@ -7,5 +7,6 @@ pub mod mask;
 mod ones;
 pub mod ring;
 mod shape;
+mod strips;
 mod windows;
 pub mod word;

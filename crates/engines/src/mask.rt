@@ -6,6 +6,7 @@ ghost use Rattle.engines.specs.Memory.{Stepped, Moved};
 
 use crate::engine::Engine;
 use crate::shape::gap_at;
+use crate::strips::mark_strips;
 use crate::windows::Windows;
 use runs::gap::Gap;
 use runs::signature::Signature;
@@ -81,6 +82,14 @@ impl Engine for Masks {
         let word = self.word(fits);
         self.push(word);
         word
+    }
+
+    fn stretch(&mut self, words: &mut [u32]) {
+        let signature = self.windows.signature;
+        let done = mark_strips(&signature, &mut self.masks, words);
+        for i in done..words.len() {
+            words[i] = self.step(words[i]);
+        }
     }
 
     fn resume(&mut self, words: &[u32]) {

@@ -1,5 +1,5 @@
 -- From a gauge and a signature as a text leaves them to the pattern that the text was read as.
-use Rattle.std.proofs.Common.{◌≡◌, ℕ, ◌<◌, ◌≤◌, Bool, List, length, get_or, Ok, Err, Result, sym, refl, ap, ◌∙◌, arith}
+use Rattle.std.proofs.Common.{◌≡◌, ℕ, ◌≤◌, Bool, List, length, get_or, Ok, Err, Result, refl, ap, ◌∙◌, arith}
 use Rattle.text.specs.declared.refusal.Refusal.{Refusal}
 use Rattle.text.specs.Refusals.{◌then◌}
 use Rattle.runs.specs.declared.gap.Gap.{Gap}

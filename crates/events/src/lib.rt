@@ -1,5 +1,5 @@
-//! Searching event codes for the text of a signature, with any engine, from Rattle or from C.
+//! Searching event codes for the text of a signature, with any engine.
 #![tactic(auto)]
-pub mod foreign;
+
 pub mod outcome;
 pub mod searching;

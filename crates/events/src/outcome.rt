@@ -13,8 +13,8 @@ pub struct Outcome {
     pub hits: usize,
 }
 
-// The answer of a search as an outcome.
-pub(crate) fn as_outcome(answer: Result<usize, Refusal>) -> Outcome
+/// The answer of a search as an outcome.
+pub fn as_outcome(answer: Result<usize, Refusal>) -> Outcome
     ensures { result ≡ outcome_of answer }
 {
     match answer {

@@ -33,6 +33,15 @@ tracing s sheet p room =
     (Err (NoHit p)))
     (Err (NoPlace p))
 
+-- the same order, of the numbers of places and slots and of whether the place is a hit
+abbrev pub tracing_by : (places slots : ℕ) (hit : Bool) (p room : ℕ) → Result (Unit {0}) Refusal
+tracing_by places slots hit p room =
+    cond (nat_lt p places)
+    (cond hit
+    (cond (nat_le slots room) (Ok tt) (Err (ShortList p)))
+    (Err (NoHit p)))
+    (Err (NoPlace p))
+
 -- only the first entries of the list change, one for each slot, and none where the trace is refused
 abbrev pub places_from : Signature → List ℕ → ℕ → List ℕ → Result (Unit {0}) Refusal → List ℕ
 places_from s sheet p places (Ok _) = trace_of s sheet p ++ drop s.slots places

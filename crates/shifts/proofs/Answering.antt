@@ -1,11 +1,11 @@
 -- Each call is answered by the book before it.
-use Rattle.std.proofs.Common.{◌≡◌, ℕ, suc, ◌+◌, ◌-◌, ◌<◌, ◌≤◌, Bool, true, false, cond, not, ◌||◌, ltb, leb, ◌⊎◌, ◌↔◌, List, [], ◌∷◌, ◌++◌, length, get_or, take, set, is_err, Ok, Err, Result, sym, refl, ap, ◌∙◌, subst, inl, inr, arith, length-set}
-use Rattle.std.proofs.lemmas.Bool.{cond-true, cond-false, both_ways, leb-true, leb-false, le-leb, lt-leb, true≢false}
+use Rattle.std.proofs.Common.{◌≡◌, ℕ, ◌<◌, ◌≤◌, Bool, true, false, cond, leb, ◌↔◌, List, [], ◌∷◌, ◌++◌, length, get_or, take, set, is_err, Ok, Err, sym, refl, ap, ◌∙◌, subst, inl, inr, arith, length-set}
+use Rattle.std.proofs.lemmas.Bool.{both_ways, leb-true, leb-false}
 use Rattle.std.proofs.lemmas.Bool.Decides.{nat_tests}
 use Rattle.text.specs.declared.refusal.Refusal.{Refusal}
 use Rattle.text.specs.declared.refusal.Refusal.TheVariants.{OtherBuffers}
-use Rattle.runs.specs.Gaps.{reach, window}
-use Rattle.runs.specs.Runs.{Pattern, last_slot, Hit}
+use Rattle.runs.specs.Gaps.{window}
+use Rattle.runs.specs.Runs.{Pattern, last_slot}
 use Rattle.runs.specs.Words.{mark, word, words, trace, reworked}
 use Rattle.runs.specs.Laws.{Counted, Felt}
 use Rattle.runs.proofs.Nth.{nth_set}
@@ -18,12 +18,12 @@ use Rattle.records.specs.declared.call.Reply.{Reply}
 use Rattle.records.specs.declared.call.Reply.TheVariants.{NotTaken}
 use Rattle.records.specs.States.{Stage, Meaning, Terms, State, pattern_by}
 use Rattle.records.specs.Refused.{Grant, amending}
-use Rattle.records.specs.Books.{Book, Answer, takes, lends, entered, grant, reply_to, list_after, after, answer}
+use Rattle.records.specs.Books.{Book, Answer, takes, lends, entered, grant, reply_to, list_after, after}
 use Rattle.records.specs.Sound.{Sound}
 use Rattle.shifts.specs.Stands.{answered}
 use Rattle.shifts.specs.Made.{Made, apt, next, answer_to}
 use Rattle.shifts.specs.Carried.{Carried}
-use Rattle.shifts.specs.Promise.{Refuses, Denies, Mends, Says, Answers}
+use Rattle.shifts.specs.Promise.{Refuses, Mends, Says, Answers}
 use Rattle.shifts.proofs.Standing.{sheet_word, word_tells}
 use Rattle.shifts.proofs.Firsts.{first_hit, names}
 use Rattle.shifts.proofs.Denying.{granted, denies, hit_told}

@@ -1,12 +1,12 @@
 -- Two outcomes that keep the promise are the same.
-use Rattle.std.proofs.Common.{◌≡◌, ℕ, zero, suc, ◌+◌, ◌-◌, ◌<◌, ◌≤◌, Bool, true, false, ◌⊎◌, ◌↔◌, List, [], ◌∷◌, ◌++◌, length, get_or, take, drop, set, Some, None, Ok, Err, Option, Result, sym, refl, ap, ◌∙◌, subst, inl, inr, arith, length-set, take-append-drop, get_or-take}
+use Rattle.std.proofs.Common.{◌≡◌, ℕ, zero, suc, ◌<◌, ◌≤◌, true, ◌⊎◌, List, [], ◌∷◌, ◌++◌, length, take, drop, set, Some, Ok, Err, Result, sym, refl, ap, ◌∙◌, subst, inl, inr, arith, length-set, take-append-drop, get_or-take}
 use Rattle.std.specs.List.{slice_get}
 use Rattle.std.proofs.lemmas.List.{ext_get_or, length-take-le}
 use Rattle.text.specs.declared.refusal.Refusal.{Refusal}
 use Rattle.text.specs.declared.refusal.Refusal.TheVariants.{OtherBuffers}
 use Rattle.runs.specs.Gaps.{window}
 use Rattle.runs.specs.Runs.{Pattern, slots}
-use Rattle.runs.specs.Words.{word, words, trace, reworked}
+use Rattle.runs.specs.Words.{words, trace}
 use Rattle.runs.proofs.Stopped.{reworked_is}
 use Rattle.runs.proofs.Traced.{trace_is, trace_only}
 use Rattle.runs.proofs.Worded.{length_words, get_d_words}
@@ -15,11 +15,11 @@ use Rattle.records.specs.declared.call.Call.TheVariants.{Append, Amend, Settle, 
 use Rattle.records.specs.declared.call.Reply.{Reply}
 use Rattle.records.specs.declared.call.Reply.TheVariants.{Placed, Reworked, Word as Bears, Hit, Named}
 use Rattle.records.specs.States.{Meaning, Terms, State, pattern_by}
-use Rattle.records.specs.Books.{Book, Answer, blank, lends, entered, grant, reply_to, list_after, finals, overlaid}
+use Rattle.records.specs.Books.{Book, Answer, blank, lends, entered, reply_to, list_after, finals, overlaid}
 use Rattle.shifts.specs.Stands.{answered}
 use Rattle.shifts.specs.Made.{Made, next, answer_to, book_at}
 use Rattle.shifts.specs.Promise.{Stands, Denies, Says, Answers, Promise}
-use Rattle.shifts.specs.Laws.{SameContent, SameOutcome, Determined}
+use Rattle.shifts.specs.Laws.{SameContent, Determined}
 use Rattle.shifts.proofs.Firsts.{first_hit, names}
 use Rattle.shifts.proofs.Denying.{granted, denies}
 use Rattle.shifts.proofs.Answering.{Way, shut, misfit, denied, done, way}

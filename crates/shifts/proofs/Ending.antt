@@ -1,5 +1,5 @@
 -- The closing at the end of a shift.
-use Rattle.std.proofs.Common.{◌≡◌, ℕ, Bool, true, false, cond, List, [], Ok, sym, refl, ◌∙◌}
+use Rattle.std.proofs.Common.{◌≡◌, ℕ, Bool, true, false, List, [], Ok, sym, refl, ◌∙◌}
 use Rattle.std.proofs.lemmas.Bool.{cond-true, cond-false, true≢false}
 use Rattle.records.specs.declared.Record.{Record}
 use Rattle.records.specs.declared.Closed.{Closed}
@@ -7,7 +7,7 @@ use Rattle.records.specs.declared.call.Call.TheVariants.{Close}
 use Rattle.records.specs.declared.call.Reply.TheVariants.{NotTaken}
 use Rattle.records.specs.States.{closed, Meaning, Terms, State, state, pattern_by}
 use Rattle.records.specs.Books.{Book, Answer, takes, answer}
-use Rattle.shifts.specs.Stands.{Obeys, Asks, answered}
+use Rattle.shifts.specs.Stands.{Obeys, answered}
 use Rattle.shifts.specs.Made.{answer_to}
 use Rattle.shifts.specs.Carried.{Carried}
 use Rattle.shifts.specs.Replayed.{closing}

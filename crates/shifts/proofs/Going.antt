@@ -1,5 +1,5 @@
 -- The calls of a shift, one request after another.
-use Rattle.std.proofs.Common.{◌≡◌, ℕ, zero, suc, ◌+◌, ◌<◌, ◌≤◌, ◌≢◌, List, [], ◌∷◌, ◌++◌, map, length, set, Some, None, vec_items, Option, sym, refl, ap, ◌∙◌, subst, add-one, arith, length-append, length-set}
+use Rattle.std.proofs.Common.{◌≡◌, ℕ, zero, suc, ◌+◌, ◌<◌, ◌≤◌, ◌≢◌, List, [], ◌∷◌, ◌++◌, map, length, set, Some, vec_items, sym, refl, ap, ◌∙◌, subst, add-one, arith, length-set}
 use Rattle.std.specs.List.{slice_get}
 use Rattle.runs.proofs.Nth.{nth_set, nth_append}
 use Rattle.runs.proofs.Steps.{at_top}

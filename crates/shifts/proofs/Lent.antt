@@ -1,12 +1,10 @@
 -- A call on the parts of the buffers that it is lent.
-use Rattle.std.proofs.Common.{◌≡◌, ℕ, zero, suc, ◌+◌, ◌-◌, ◌<◌, ◌≤◌, min, Bool, true, false, cond, not, ◌||◌, leb, ◌⊎◌, List, [], ◌∷◌, ◌++◌, length, take, drop, is_err, Ok, Err, sym, refl, ap, ◌∙◌, subst, inl, inr, append-nil, arith, take-append-drop, length-take}
+use Rattle.std.proofs.Common.{◌≡◌, ℕ, zero, suc, ◌<◌, min, Bool, true, false, cond, not, ◌||◌, leb, List, [], ◌∷◌, ◌++◌, length, take, drop, is_err, Err, sym, refl, ap, ◌∙◌, subst, append-nil, arith, take-append-drop, length-take}
 use Rattle.std.proofs.lemmas.List.{take_all, drop_all}
 use Rattle.std.proofs.lemmas.Bool.{cond-true, cond-false, both_ways, leb-true, leb-false}
 use Rattle.text.specs.declared.refusal.Refusal.TheVariants.{OtherBuffers}
-use Rattle.records.specs.declared.call.Call.{Call}
-use Rattle.records.specs.declared.call.Reply.TheVariants.{NotTaken}
 use Rattle.records.specs.States.{Stage, Meaning, Terms, State, pattern_by}
-use Rattle.records.specs.Books.{Book, Answer, takes, lends, after, answer}
+use Rattle.records.specs.Books.{Book, Answer, takes, lends, answer}
 use Rattle.records.specs.Sound.{Sound, Keeps}
 use Rattle.shifts.specs.declared.carrying.Kept.{Kept}
 use Rattle.shifts.specs.declared.carrying.Kept.TheVariants.{Open, Closed}

@@ -1,11 +1,11 @@
 -- The answers of a shift, one after another, and that they depend on the sets of the slots alone.
-use Rattle.std.proofs.Common.{◌≡◌, ℕ, zero, suc, ◌+◌, ◌-◌, ◌<◌, ◌≤◌, Bool, cond, List, [], ◌∷◌, ◌++◌, length, take, drop, set, Some, Ok, Err, sym, refl, ap, ◌∙◌, subst, arith}
-use Rattle.std.specs.List.{slice_get, range_with_len}
+use Rattle.std.proofs.Common.{◌≡◌, ℕ, zero, suc, ◌-◌, ◌≤◌, Bool, cond, List, [], ◌∷◌, ◌++◌, length, take, drop, set, Some, Ok, Err, sym, refl, ap, ◌∙◌, arith}
+use Rattle.std.specs.List.{slice_get}
 use Rattle.text.specs.declared.refusal.Refusal.TheVariants.{OtherBuffers}
 use Rattle.runs.specs.declared.gap.Gap.{Gap}
 use Rattle.runs.specs.Gaps.{window}
-use Rattle.runs.specs.Runs.{Pattern, last_slot, slots}
-use Rattle.runs.specs.Words.{mark, word, words, trace, reworked}
+use Rattle.runs.specs.Runs.{Pattern, slots}
+use Rattle.runs.specs.Words.{mark, reworked}
 use Rattle.runs.proofs.Alike.{mark_alike, word_alike, words_alike, trace_alike}
 use Rattle.runs.proofs.Below.{kept_same}
 use Rattle.search.specs.Traces.{tracing_by}
@@ -14,7 +14,7 @@ use Rattle.records.specs.declared.call.Call.TheVariants.{Append, Amend, Settle, 
 use Rattle.records.specs.declared.call.Reply.TheVariants.{Placed, Reworked, Word as Bears, Hit, Named, NotTaken}
 use Rattle.records.specs.States.{Meaning, Terms, State, pattern_by}
 use Rattle.records.specs.Refused.{granting, leaving}
-use Rattle.records.specs.Books.{Book, Answer, blank, takes, entered, finals, overlaid, grant, reply_to, list_after, after, answer, first_from}
+use Rattle.records.specs.Books.{Book, Answer, blank, takes, entered, finals, overlaid, grant, reply_to, list_after, answer}
 use Rattle.records.proofs.Asking.{first_same}
 use Rattle.shifts.specs.Stands.{answered}
 use Rattle.shifts.specs.Made.{Made, apt, next, answer_to, book_from, book_at}

@@ -1,9 +1,8 @@
 -- The worked shift's answers.
-use Rattle.std.proofs.Common.{◌≡◌, ℕ, ◌≤◌, List, length, sym, refl, ap, ◌∙◌, subst, arith}
+use Rattle.std.proofs.Common.{◌≡◌, ℕ, List, refl, ap, ◌∙◌}
 use Rattle.runs.specs.declared.gap.Gap.{Gap}
 use Rattle.runs.specs.Sheets.{pair}
 use Rattle.runs.specs.Words.{before, mark, word, trace, reworked}
-use Rattle.runs.specs.Signatures.{gaps_of}
 use Rattle.records.specs.States.{pattern_by}
 use Rattle.records.specs.Books.{blank}
 use Rattle.shifts.specs.Worked.{worked_shift, worked_outcome, Worked}

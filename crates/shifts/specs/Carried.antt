@@ -1,5 +1,5 @@
 -- One call of a shift.
-use Rattle.std.specs.Prelude.{◌≡◌, ℕ, true, false, List, drop, is_err, Some, vec_items, Option, Result}
+use Rattle.std.specs.Prelude.{◌≡◌, true, false, drop, is_err, Some, vec_items, Result}
 use Rattle.text.specs.declared.refusal.Refusal.{Refusal}
 use Rattle.records.specs.declared.call.Reply.{Reply}
 use Rattle.records.specs.States.{closed, Meaning, Terms, State, pattern_by}

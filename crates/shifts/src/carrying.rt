@@ -28,7 +28,7 @@ fn ask<G: Gauge, E: Engine, S>(
     call: &Call<G::Reading>,
     list: &mut [usize],
 ) -> Result<Reply, Refusal>
-    ensures { Asks (meaning sets shape says) call.now list.old «record».now readings.now sheet.now (answered result list.new) }
+    ensures { Asks (meaning G.Gauge.sets E.Engine.shape E.Engine.says) call.now list.old «record».now readings.now sheet.now (answered result list.new) }
 {
     match call {
         Call::Word(place) => match record.word(readings, sheet, *place) {
@@ -66,7 +66,7 @@ fn call_open<G: Gauge, E: Engine>(
 where
     G::Reading: Copy,
     requires { lends call.now ≡ true }
-    ensures { Keeps (meaning sets shape says) call.now list.old (state opened «open».old readings.old sheet.old) (answered result list.new) (state opened «open».new readings.new sheet.new) }
+    ensures { Keeps (meaning G.Gauge.sets E.Engine.shape E.Engine.says) call.now list.old (state opened «open».old readings.old sheet.old) (answered result list.new) (state opened «open».new readings.new sheet.new) }
 {
     match call {
         Call::Append(reading) => match open.append(readings, sheet, *reading) {
@@ -97,7 +97,7 @@ where
         call: &Call<G::Reading>,
         list: &mut [usize],
     ) -> (Kept<G, E>, Result<Reply, Refusal>)
-        ensures { Obeys (meaning sets shape says) call.now list.old (standing self readings.old sheet.old) (answered result.1 list.new) (standing result.0 readings.new sheet.new) }
+        ensures { Obeys (meaning G.Gauge.sets E.Engine.shape E.Engine.says) call.now list.old (standing self readings.old sheet.old) (answered result.1 list.new) (standing result.0 readings.new sheet.new) }
     {
         match self {
             Kept::Closed(closed) => {
@@ -127,7 +127,7 @@ where
         sheet: &mut [u32],
         request: &mut Request<G::Reading>,
     ) -> Kept<G, E>
-        ensures { Carries (meaning sets shape says) request.old (standing self readings.old sheet.old) request.new (standing result readings.new sheet.new) }
+        ensures { Carries (meaning G.Gauge.sets E.Engine.shape E.Engine.says) request.old (standing self readings.old sheet.old) request.new (standing result readings.new sheet.new) }
     {
         let call = request.call;
         let read = lent_entries(&call, request.lent, readings.len());
@@ -146,7 +146,7 @@ where
 impl<G: Gauge, E: Engine> Kept<G, E> {
     /// The record closed, where it is not yet.
     pub fn close(self) -> ClosedRecord<G, E>
-        ensures { Ends (meaning sets shape says) self result }
+        ensures { Ends (meaning G.Gauge.sets E.Engine.shape E.Engine.says) self result }
     {
         match self {
             Kept::Open(open) => open.close(),

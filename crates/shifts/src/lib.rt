@@ -1,5 +1,6 @@
 //! Shifts: any list of calls on a record, carried out one after another.
 #![tactic(auto)]
+
 pub mod carrying;
 pub mod laws;
 pub mod replay;

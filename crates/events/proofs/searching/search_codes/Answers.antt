@@ -1,6 +1,5 @@
 use Rattle.std.proofs.Common.{◌≡◌, length, Ok, sym, ap, ◌∙◌}
 use Rattle.text.specs.Refusals.{◌then◌}
-use Rattle.runs.specs.Signatures.{pattern_of}
 use Rattle.signature.specs.Outcomes.{signature_at, Left}
 use Rattle.gauges.specs.Codes.{event_at}
 use Rattle.gauges.specs.Tables.{held}
@@ -15,10 +14,10 @@ returns g c =
     let text = c.args.text.now in
     let xs = c.args.codes.now in
     let before = c.args.sheet.now in
-    let s = c.read-signature.new.signature in
-    let sets = held c.read-signature.new.gauge.table in
+    let s = c.read_signature.new.signature in
+    let sets = held c.read_signature.new.gauge.table in
     let limit = g.E.Engine.limit in
-    let told = c.in-ok-read-signature.ensures in
+    let told = c.in_ok-read_signature.ensures in
     let (p, is) = plan_of (signature_at event_at text) _ told.value in
     let left : Left (Ok p) sets s = rw is at told.left in
     let q = opening limit (length xs) (length before) s in

@@ -17,5 +17,5 @@ returns-in-Err-amend g c = keeps_of _ _ _ _ _ _ _ c.in-Amend.is (c.in-Err-amend.
 pub returns-in-Err-settle : goal.returns-in-Err-settle
 returns-in-Err-settle g c = keeps_of _ _ _ _ _ _ _ c.in-Settle.is (c.in-Err-settle.ensures.keeps c.args.list.now)
 
-pub returns-in-default : goal.returns-in-default
-returns-in-default g c = c.ask.ensures.asked (question_of c.args.call.now c.requires c.in-default.not-Append c.in-default.not-Amend c.in-default.not-Settle) opened
+pub returns-in_default : goal.returns-in_default
+returns-in_default g c = c.ask.ensures.asked (question_of c.args.call.now c.requires c.in_default.not-Append c.in_default.not-Amend c.in_default.not-Settle) opened

@@ -1,4 +1,4 @@
-use Rattle.std.proofs.Common.{◌≡◌, ◌<◌, length, get_or, Some, refl, arith}
+use Rattle.std.proofs.Common.{◌≡◌, ◌<◌, length, get_or, Some, arith}
 use Rattle.std.specs.List.{slice_get}
 use Rattle.std.proofs.lemmas.Option.{slice_get-get_or}
 use Rattle.records.specs.States.{meaning, state, opened}
@@ -20,8 +20,8 @@ loop-i-preserved g c =
     let M = meaning g.G.Gauge.sets g.E.Engine.shape g.E.Engine.says in
     let s = state opened c.in-Ok.open c.args.readings.now c.args.sheet.now in
     let t = standing c.loop-i.kept c.loop-i.readings c.loop-i.sheet in
-    let u = standing c.carry-out-kept.result c.carry-out-kept.new.readings c.carry-out-kept.new.sheet in
-    going_more M c.args.requests.now s now i t u q c.carry-out-kept.new.request l read c.loop-i.invariant c.carry-out-kept.ensures
+    let u = standing c.carry_out-kept.result c.carry_out-kept.new.readings c.carry_out-kept.new.sheet in
+    going_more M c.args.requests.now s now i t u q c.carry_out-kept.new.request l read c.loop-i.invariant c.carry_out-kept.ensures
 
 pub returns : goal.returns
 returns g c =

@@ -3,9 +3,8 @@ use Rattle.records.specs.declared.call.Call.TheVariants.{Close}
 use Rattle.records.specs.declared.call.Reply.TheVariants.{Closed as Ended, NotTaken}
 use Rattle.records.specs.States.{meaning, state, opened, closed}
 use Rattle.shifts.specs.declared.carrying.Kept.{Kept}
-use Rattle.shifts.specs.Stands.{standing, answered}
-use Rattle.shifts.specs.Carried.{Carried}
-use Rattle.shifts.specs.Replayed.{closing, Ends}
+use Rattle.shifts.specs.Stands.{answered}
+use Rattle.shifts.specs.Replayed.{Ends}
 use Rattle.shifts.proofs.Asking.{obeys_opened}
 use Rattle.shifts.proofs.Ending.{carried_close, closed_already}
 use Rattle.shifts.proofs.carrying.Kept.close.Goals as goal

@@ -1,0 +1,45 @@
+-- Steps after steps.
+use Rattle.std.proofs.Common.{◌≡◌, ℕ, suc, ◌+◌, ◌<◌, ◌≤◌, List, get_or, drop, sym, ◌∙◌, subst, inl, arith}
+use Rattle.std.proofs.lemmas.List.{get_or-drop}
+use Rattle.runs.specs.declared.signature.Signature.{Signature}
+use Rattle.engines.specs.Memory.{Memory, Stepped, Moved, Same, Steps}
+use Rattle.engines.specs.Memory.Steps.{none, more}
+use Rattle.engines.specs.Masked.{masks_say}
+use Rattle.engines.proofs.Chains.{moved_to, steps_alike}
+use Rattle.engines.specs.Rows.{Elsewhere}
+use Rattle.engines.specs.Strips.{Stepped64}
+
+module _ (s : Signature) where
+  -- to a memory that says the same
+  steps_to : (fits words : List ℕ) (says middle after : Memory) (n : ℕ) → Same s middle after → Steps s fits words says n middle → Steps s fits words says n after
+  steps_to fits words says middle after _ same (none first) = none (λ j d lj ld. same j d lj ld ∙ first j d lj ld)
+  steps_to fits words says middle after _ same (more before stepped moved) = more before stepped (moved_to s _ middle after _ same moved)
+
+  -- from other fits, of which the first n are the same
+  steps_fits : (fits others words : List ℕ) (says after : Memory) (n : ℕ) → ((k : ℕ) → k < n → get_or fits k 0 ≡ get_or others k 0) → Steps s fits words says n after → Steps s others words says n after
+  steps_fits fits others words says after _ e (none same) = none same
+  steps_fits fits others words says after _ e (more {n = n} {middle = middle} before stepped moved) =
+      more (steps_fits fits others words says middle n (λ k l. e k (omega arith)) before)
+      (subst (λ f. Stepped s middle f (get_or words n 0)) (e n (omega arith)) stepped) moved
+
+  -- m steps from place n on, after n steps
+  steps_join : (fits words : List ℕ) (says middle : Memory) (n : ℕ) (after : Memory) (m : ℕ) → Steps s fits words says n middle → Steps s (drop n fits) (drop n words) middle m after → Steps s fits words says (n + m) after
+  steps_join fits words says middle n after _ first (none same) =
+      let e : n ≡ n + 0 = omega arith in
+      subst (λ i. Steps s fits words says i after) e (steps_to fits words says middle after n same first)
+  steps_join fits words says middle n after _ first (more {n = m} {middle = next} before stepped moved) =
+      let e : suc (n + m) ≡ n + suc m = omega arith in
+      let f = get_or-drop n fits m 0 in
+      let v = get_or-drop n words m 0 in
+      subst (λ i. Steps s fits words says i after) e
+      (more (steps_join fits words says middle n next m first before)
+      (subst (λ y. Stepped s next y (get_or words (n + m) 0)) f (subst (λ y. Stepped s next (get_or (drop n fits) m 0) y) v stepped))
+      (subst (λ y. Moved s next y after) v moved))
+
+  -- one strip more, whose words are written in place
+  pub steps_strip : (fits words new : List ℕ) (says : Memory) (masks after : List ℕ) (n : ℕ) → Steps s fits words says n (masks_say masks) → ((k : ℕ) → n ≤ k → get_or words k 0 ≡ get_or fits k 0)
+      → Stepped64 s n words new masks after → Elsewhere n words new → Steps s fits new says (n + 64) (masks_say after)
+  steps_strip fits words new says masks after n first rest strip others =
+      let same : (k : ℕ) → k < 64 → get_or (drop n words) k 0 ≡ get_or (drop n fits) k 0 = λ k l. get_or-drop n words k 0 ∙ rest (n + k) (omega arith) ∙ sym (get_or-drop n fits k 0) in
+      steps_join fits new says (masks_say masks) n (masks_say after) 64 (steps_alike s fits words new says (masks_say masks) n (λ k l. sym (others k (inl l))) first)
+      (steps_fits (drop n words) (drop n fits) (drop n new) (masks_say masks) (masks_say after) 64 same strip)

@@ -1,6 +1,0 @@
-use Rattle.std.proofs.Common.{◌≡◌}
-use Rattle.mask.proofs.Masked.{Shifted}
-use Rattle.mask.proofs.Masks.push.Given as goal
-
-abbrev pub invariant-loop-j : goal.invariant-loop-j
-invariant-loop-j l = (l.self.windows ≡ l.initial.self.windows) × Shifted l.initial.self.masks l.word l.j l.self.masks

@@ -1,6 +1,0 @@
-use Rattle.std.proofs.Common.{ap}
-use Rattle.mask.specs.declared.windows.Windows.{Windows}
-use Rattle.mask.proofs.MasksEngine.step.Goals as goal
-
-pub returns : goal.returns
-returns c = record { shape = ap (λ (w : Windows). w.signature) c.push.ensures.windows; word = c.word-word.ensures; memory = c.push.ensures.memory }

@@ -1,5 +1,0 @@
-use Rattle.ring.proofs.Rings.{past_blank}
-use Rattle.ring.proofs.Ring.new.Goals as goal
-
-pub returns : goal.returns
-returns c = record { shape = c.new-signature.ensures; memory = past_blank 0 }

@@ -1,6 +1,0 @@
-use Rattle.std.proofs.Common.{refl, rules}
-use Rattle.ring.proofs.Rings.{ring_moved}
-use Rattle.ring.proofs.Ring.push.Goals as goal
-
-pub returns : goal.returns
-returns c = let me = c.args.self.now in record { signature = refl; memory = ring_moved me.signature _ _ _ me.inside (search rules) }

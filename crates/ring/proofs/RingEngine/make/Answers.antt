@@ -1,7 +1,0 @@
-use Rattle.std.proofs.Common.{refl}
-use Rattle.engines.proofs.Recalled.{recalls_none}
-use Rattle.ring.proofs.Rings.{past_blank}
-use Rattle.ring.proofs.RingEngine.make.Goals as goal
-
-pub returns : goal.returns
-returns c = record { shape = refl; memory = recalls_none c.args.signature.now _ (past_blank 0) }

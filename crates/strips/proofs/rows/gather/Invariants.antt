@@ -1,5 +1,0 @@
-use Rattle.strips.proofs.Packed.{Bytes}
-use Rattle.strips.proofs.rows.gather.Given as goal
-
-abbrev pub invariant-loop-byte : goal.invariant-loop-byte
-invariant-loop-byte l = Bytes l.words l.from l.row l.byte l.bytes

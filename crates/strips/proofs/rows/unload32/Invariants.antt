@@ -1,5 +1,0 @@
-use Rattle.strips.proofs.Packed.{Halves}
-use Rattle.strips.proofs.rows.unload32.Given as goal
-
-abbrev pub invariant-loop-row : goal.invariant-loop-row
-invariant-loop-row l = Halves l.rows l.from l.row l.initial.words l.words

@@ -1,5 +1,0 @@
-use Rattle.word.proofs.Laid.{Laid}
-use Rattle.word.proofs.layout.Layout.new.Given as goal
-
-abbrev pub invariant-loop-j : goal.invariant-loop-j
-invariant-loop-j l = Laid l.gaps l.j l.at l.keep l.starts l.windows
