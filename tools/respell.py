@@ -19,7 +19,7 @@ FIELD = re.compile(r"^\s+(" + WORD + r")\s*:\s")
 MADE = re.compile(r":\s*(?:goal|need|needs|rules|given)\.\S+\s*$")
 
 
-# Names that would fall together with another definition or with a function of src/, and what they are called.
+# Names that would fall together with another definition or with a function of src/, and what they are called; and those of one crate alone.
 OTHERWISE = {
     "bit-and": "bit_of_and",
     "end-of": "end_behind",
@@ -33,6 +33,8 @@ OTHERWISE = {
     "trace-at": "trace_told",
     "word-at": "word_told",
 }
+
+WITHIN = {"signature": {"gapAt": "gap_at"}, "text": {"mark_of": "byte_mark"}}
 
 
 def files(suffixes):
@@ -52,6 +54,7 @@ def respelled(name):
     """A type keeps its capital and loses its dashes; all else goes to snake case."""
     if name in OTHERWISE:
         return OTHERWISE[name]
+    name = re.sub(r"^get(?:D|_d)(?=[-_])", "get_or", name)
     if name[0].isupper():
         return re.sub(r"[-_]+([a-z])", lambda m: m.group(1).upper(), name)
     name = re.sub(r"(?<=[a-z0-9])([A-Z])(?=[a-z]|$|[-_])", lambda m: "_" + m.group(1).lower(), name)
@@ -65,7 +68,7 @@ def declared():
         lines = read(path).split("\n")
         for line in lines:
             code = line.split(" -- ")[0]
-            if code.lstrip().startswith(("--", "use ", "pub use", "mod ", "pub mod", "module ", "let ", "in ")) or MADE.search(code):
+            if code.lstrip().startswith(("--", "use ", "pub use", "mod ", "pub mod ", "module ", "let ", "in ")) or MADE.search(code):
                 continue
             m = DECLARED.match(code)
             if m and " : " in code + " ":
@@ -127,11 +130,14 @@ def main():
     for path in files((".antt", ".rt")):
         old = read(path)
         new = []
+        alone = {n: to for n, to in WITHIN.get(path.split(os.sep)[1], {}).items() if n in names}
         for line in old.split("\n"):
             if path.endswith(".rt") and '"' in line:
                 new.append(line)
                 continue
-            new.append(TOKEN.sub(lambda m: change.get(m.group(0), m.group(0)), line))
+            spec = path.endswith(".antt") or re.search(r"\b(ghost|requires|ensures)\b", line)
+            here = change | alone if spec else change
+            new.append(TOKEN.sub(lambda m: here.get(m.group(0), m.group(0)), line))
         text = "\n".join(new)
         if text != old:
             written += 1

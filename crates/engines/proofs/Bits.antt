@@ -96,19 +96,19 @@ bit_mod k n i l =
     ap (λ x. eqb x 1) (ap (λ k. n % 2 ^ k / 2 ^ i % 2) (sym e) ∙ ap (λ x. x % 2) f ∙ mod-mod-pow (n / 2 ^ i) j 1)
 
 -- one bit more of a remainder
-pub mod-bit : (n j : ℕ) → bit (n % 2 ^ (j + 1)) j ≡ bit n j
-mod-bit n j = bit_mod (j + 1) n j (omega arith)
+pub mod_bit : (n j : ℕ) → bit (n % 2 ^ (j + 1)) j ≡ bit n j
+mod_bit n j = bit_mod (j + 1) n j (omega arith)
 
-pub mod-other : (n j i : ℕ) → i ≢ j → bit (n % 2 ^ (j + 1)) i ≡ bit (n % 2 ^ j) i
-mod-other n j i ne = ⊎_elim
+pub mod_other : (n j i : ℕ) → i ≢ j → bit (n % 2 ^ (j + 1)) i ≡ bit (n % 2 ^ j) i
+mod_other n j i ne = ⊎_elim
     (λ (l : i < j). bit_mod (j + 1) n i (omega arith) ∙ sym (bit_mod j n i l))
     (λ (l : j ≤ i). bit_high (n % 2 ^ (j + 1)) i (j + 1) (mod_below n (2 ^ (j + 1)) (pow_pos (j + 1))) (omega arith) ∙ sym (bit_high (n % 2 ^ j) i j (mod_below n (2 ^ j) (pow_pos j)) l))
     (cases_lt i j)
 
-pub mod-skip : (n j i : ℕ) → bit n j ≡ false → bit (n % 2 ^ j) i ≡ bit (n % 2 ^ (j + 1)) i
-mod-skip n j i z = ⊎_elim
-    (λ (e : i ≡ j). subst (λ i. bit (n % 2 ^ j) i ≡ bit (n % 2 ^ (j + 1)) i) (sym e) (bit_high (n % 2 ^ j) j j (mod_below n (2 ^ j) (pow_pos j)) (omega arith) ∙ sym (mod-bit n j ∙ z)))
-    (λ (ne : i ≡ j → ⊥). sym (mod-other n j i ne))
+pub mod_skip : (n j i : ℕ) → bit n j ≡ false → bit (n % 2 ^ j) i ≡ bit (n % 2 ^ (j + 1)) i
+mod_skip n j i z = ⊎_elim
+    (λ (e : i ≡ j). subst (λ i. bit (n % 2 ^ j) i ≡ bit (n % 2 ^ (j + 1)) i) (sym e) (bit_high (n % 2 ^ j) j j (mod_below n (2 ^ j) (pow_pos j)) (omega arith) ∙ sym (mod_bit n j ∙ z)))
+    (λ (ne : i ≡ j → ⊥). sym (mod_other n j i ne))
     (cases_eq i j)
 
 -- a shift by one in k bits

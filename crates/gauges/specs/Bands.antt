@@ -16,7 +16,7 @@ use Rattle.signature.specs.Slots.{set_of, end_of, Within, Past}
 use Rattle.gauges.specs.declared.band.Band.{Band}
 use Rattle.gauges.specs.declared.band.ReadBand.{ReadBand}
 use Rattle.gauges.specs.Currents.{band_at, current_at, held_by, banded}
-use Rattle.gauges.specs.TablesLemmas.{get_d_replicate_same}
+use Rattle.gauges.specs.TablesLemmas.{get_or_replicate_same}
 use Rattle.text.proofs.Steps.{both, ok_same, ways}
 
 band_within : (s : List ℕ) (at : ℕ) (b : ReadBand) → band_at s at ≡ Ok b → (at < b.end) × (b.end ≤ length s)
@@ -40,7 +40,7 @@ unfolding current_at
 current_past s at l = rw (signed_past s at l, signed_past s (length s) (omega arith)) refl
 
 pub none_banded : (n j : ℕ) (x : ℤ) → banded (replicate n None) j x ≡ false
-none_banded n j x = ap (λ b. held_by b x) (get_d_replicate_same n None j)
+none_banded n j x = ap (λ b. held_by b x) (get_or_replicate_same n None j)
 
 -- the slot that is written has the set of its band
 pub put_band : (bands : List (Option Band)) (slot : ℕ) (band : Option Band) (holds : ℤ → Bool) → length bands ≡ 32 → ((x : ℤ) → held_by band x ≡ holds x)

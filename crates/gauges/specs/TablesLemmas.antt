@@ -6,19 +6,19 @@ use Rattle.std.proofs.lemmas.List.{get_or_past}
 use Rattle.std.proofs.lemmas.Bool.{cases_lt}
 use Rattle.std.proofs.lemmas.Bool.Decides.{nat_tests}
 use Rattle.runs.specs.Bits.{bit}
-use Rattle.signature.specs.Sets.{Put}
+use Rattle.signature.specs.Sets.{Put, nothing}
 use Rattle.gauges.specs.Tables.{held}
 
-pub get_d_replicate_same : {X : Type 0} (n : ℕ) (v : X) (k : ℕ) → slice_index_or (replicate n v) k v ≡ v
-get_d_replicate_same zero v k = refl
-get_d_replicate_same (suc n) v zero = refl
-get_d_replicate_same (suc n) v (suc k) = get_d_replicate_same n v k
+pub get_or_replicate_same : {X : Type 0} (n : ℕ) (v : X) (k : ℕ) → slice_index_or (replicate n v) k v ≡ v
+get_or_replicate_same zero v k = refl
+get_or_replicate_same (suc n) v zero = refl
+get_or_replicate_same (suc n) v (suc k) = get_or_replicate_same n v k
 
 no_bit : (j : ℕ) → bit 0 j ≡ false
 no_bit j = rw zero-div
 
 pub none_held : (n j x : ℕ) → held (replicate n 0) j x ≡ false
-none_held n j x = rw (get_d_replicate_same {X = ℕ} n 0 x) (no_bit j)
+none_held n j x = rw (get_or_replicate_same {X = ℕ} n 0 x) (no_bit j)
 
 past : (table : List ℕ) (j x : ℕ) → length table ≡ 256 → 256 ≤ x → held table j x ≡ false
 past table j x long h = ap (λ n. bit n j) (get_or_past table x 0 (omega arith)) ∙ no_bit j
@@ -36,3 +36,8 @@ put_codes old new slot inside set a b marked low high j l x = go (cases_lt x 256
         let is = past new j x b k in
         let none = high x k in
         grind (arith, nat_tests)
+
+-- the same with the set of no code
+pub emptied_codes : (old new : List ℕ) (slot : ℕ) → length old ≡ 256 → length new ≡ 256
+    → ((c : ℕ) → c < 256 → (j : ℕ) → bit (slice_index new c) j ≡ cond (j == slot) (slice_index_or (replicate 256 false) c false) (bit (slice_index old c) j)) → Put slot nothing (held old) (held new)
+emptied_codes old new slot a b marked = put_codes old new slot (replicate 256 false) nothing a b marked (λ k l. get_or_replicate_same 256 false k) (λ k l. refl)

@@ -64,6 +64,7 @@ impl Gauge for Event {
         self.table[usize::from(*reading)]
     }
 
+    #[tactic(auto, using(crate::specs::TablesLemmas::emptied_codes))]
     fn empty_slot(&mut self, slot: u32) {
         if slot < 32 {
             mark_codes(&mut self.table, slot, &[false; 256]);

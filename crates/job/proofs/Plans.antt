@@ -9,7 +9,7 @@ use Rattle.runs.specs.Signatures.{gaps_of, pattern_of}
 use Rattle.runs.specs.Words.{words, hits, trace}
 use Rattle.runs.proofs.Alike.{words_alike, hits_alike}
 use Rattle.runs.proofs.Patterns.{length_gaps_of}
-use Rattle.runs.proofs.Worded.{length_words, get_d_words}
+use Rattle.runs.proofs.Worded.{length_words, get_or_words}
 use Rattle.signature.specs.Sets.{nothing}
 use Rattle.signature.specs.Outcomes.{Plan, Left, answer, signature_at}
 use Rattle.gauges.specs.Codes.{event_at}
@@ -17,7 +17,7 @@ use Rattle.search.specs.Openings.{opening, opening_by}
 use Rattle.search.specs.Sheets.{found, sheet_after}
 use Rattle.search.specs.Traces.{hits_of, trace_of}
 use Rattle.search.proofs.Told.{traced, all_hits}
-use Rattle.job.specs.Jobs.{pattern_in, searchable, counted, Searched, found as foundText}
+use Rattle.job.specs.Jobs.{pattern_in, searchable, counted, Searched, found as found_text}
 use Rattle.job.specs.Printed.{text_of_refusal, hit_lines, last_line}
 
 -- an answer that is given comes of a plan
@@ -72,14 +72,14 @@ module _ (p : Plan ℕ) (s : Signature) (xs : List ℕ) where
     hits_told = into (λ P. hits_of s (words P xs) ≡ hits P xs) (all_hits planned s some xs)
 
     traces_told : (q : ℕ) → trace_of s (words (pattern_in p) xs) q ≡ trace (pattern_in p) xs q
-    traces_told q = into (λ P. trace_of s (words P xs) q ≡ trace P xs q) (traced planned s some xs _ q (λ k l. get_d_words (pattern_of planned s) xs k))
+    traces_told q = into (λ P. trace_of s (words P xs) q ≡ trace P xs q) (traced planned s some xs _ q (λ k l. get_or_words (pattern_of planned s) xs k))
 
     pub lines_told : hit_lines (trace_of s (words (pattern_in p) xs)) (hits_of s (words (pattern_in p) xs)) ≡ hit_lines (trace (pattern_in p) xs) (hits (pattern_in p) xs)
     lines_told = lines_same _ _ traces_told (hits_of s (words (pattern_in p) xs)) ∙ ap (hit_lines (trace (pattern_in p) xs)) hits_told
 
 -- what is printed of a search, and of a refusal
 pub printed_hits : (xs : List ℕ) (o : Result (Plan ℕ) Refusal) (count : ℕ) (s : Signature) (sheet : List ℕ) → Ok count ≡ counted xs o → Searched xs o s sheet
-    → hit_lines (trace_of s sheet) (hits_of s sheet) ++ last_line count (length sheet) ≡ foundText xs o
+    → hit_lines (trace_of s sheet) (hits_of s sheet) ++ last_line count (length sheet) ≡ found_text xs o
 printed_hits xs (Ok p) count s sheet is (some, gaps, words_are) =
     let P = pattern_in p in
     let n : count ≡ length (hits P xs) = cc in
@@ -89,6 +89,6 @@ printed_hits xs (Ok p) count s sheet is (some, gaps, words_are) =
     ∙ ap (λ (m : ℕ). hit_lines (trace P xs) (hits P xs) ++ last_line (length (hits P xs)) m) (length_words P xs)
 printed_hits xs (Err e) count s sheet is h = absurd (let z : ◌≡◌ {A = ℕ} 0 1 = cc in omega arith)
 
-pub printed_refusal : (xs : List ℕ) (o : Result (Plan ℕ) Refusal) (e : Refusal) → Err e ≡ counted xs o → text_of_refusal e ≡ foundText xs o
+pub printed_refusal : (xs : List ℕ) (o : Result (Plan ℕ) Refusal) (e : Refusal) → Err e ≡ counted xs o → text_of_refusal e ≡ found_text xs o
 printed_refusal xs (Ok p) e is = absurd (let z : ◌≡◌ {A = ℕ} 0 1 = cc in omega arith)
 printed_refusal xs (Err x) e is = let same : e ≡ x = cc in ap text_of_refusal same

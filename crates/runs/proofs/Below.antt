@@ -8,7 +8,7 @@ use Rattle.runs.specs.Bits.{bit}
 use Rattle.runs.specs.Runs.{Pattern, last_slot, Hit}
 use Rattle.runs.specs.Words.{mark, word, words, hits, trace}
 use Rattle.runs.proofs.Marked.{mark_decides}
-use Rattle.runs.proofs.Worded.{word_alike, bit_mark, length_words, get_d_words}
+use Rattle.runs.proofs.Worded.{word_alike, bit_mark, length_words, get_or_words}
 use Rattle.runs.proofs.Local.{alike_below}
 use Rattle.runs.proofs.Listed.{kept_more}
 use Rattle.runs.proofs.Traced.{trace_is, trace_only, final}
@@ -42,7 +42,7 @@ module _ {R : Type 0} (P : Pattern R) where
       let same = length_words P (take n xs) in
       ext_get_or 0 (words P (take n xs)) (take n (words P xs)) (omega arith) (λ k b.
       let kn : k < n = omega arith in
-      get_d_words P (take n xs) k ∙ word_same (take n xs) xs n (nth_take n xs) k kn ∙ sym (get_or-take n (words P xs) k 0 kn ∙ get_d_words P xs k))
+      get_or_words P (take n xs) k ∙ word_same (take n xs) xs n (nth_take n xs) k kn ∙ sym (get_or-take n (words P xs) k 0 kn ∙ get_or_words P xs k))
 
   pub words_append : (xs ys : List R) → take (length xs) (words P (xs ++ ys)) ≡ words P xs
   words_append xs ys =

@@ -8,7 +8,7 @@ use Rattle.runs.specs.Gaps.{low, high}
 use Rattle.runs.specs.Bits.{bit}
 use Rattle.runs.specs.Runs.{Pattern, slots, fits_at, Mark}
 use Rattle.runs.specs.Words.{some, bits, mark, word, words}
-use Rattle.runs.proofs.Worded.{halved, bits_same, bit_mark, bit_decides, bit_above, word_below, word_bits, length_words, get_d_words}
+use Rattle.runs.proofs.Worded.{halved, bits_same, bit_mark, bit_decides, bit_above, word_below, word_bits, length_words, get_or_words}
 use Rattle.runs.proofs.Windowed.{back, mark_windowed, windowed}
 
 pub some_same : (f g : ℕ → Bool) (n : ℕ) → ((d : ℕ) → f d ≡ g d) → some f n ≡ some g n
@@ -101,7 +101,7 @@ module _ {R : Type 0} (P : Pattern R) where
       go (inl b) =
           let is : length (take p (words P xs)) - 1 - d ≡ p - suc d = omega (arith, long) in
           get_or-reverse (take p (words P xs)) d 0 (omega (arith, long)) ∙ ap (λ (k : ℕ). get_or (take p (words P xs)) k 0) is ∙
-          get_or-take p (words P xs) (p - suc d) 0 (omega arith) ∙ get_d_words P xs (p - suc d) ∙ sym (past_in xs p d b)
+          get_or-take p (words P xs) (p - suc d) 0 (omega arith) ∙ get_or_words P xs (p - suc d) ∙ sym (past_in xs p d b)
       go (inr b) = get_or_past (reverse (take p (words P xs))) d 0 (omega (arith, long, length-reverse (take p (words P xs)))) ∙ sym (past_out xs p d b)
 
   -- bit j of the word d + 1 places before p is set where there is such a place, and it bears mark j

@@ -87,8 +87,8 @@ module _ {R : Type 0} (P : Pattern R) where
   pub length_words : (xs : List R) → length (words P xs) ≡ length xs
   length_words xs = length-map-range_with_len (word P xs) 0 (length xs)
 
-  pub get_d_words : (xs : List R) (p : ℕ) → get_or (words P xs) p 0 ≡ word P xs p
-  get_d_words xs p = go (cases_lt p (length xs))
+  pub get_or_words : (xs : List R) (p : ℕ) → get_or (words P xs) p 0 ≡ word P xs p
+  get_or_words xs p = go (cases_lt p (length xs))
     where
       go : (p < length xs) ⊎ (length xs ≤ p) → get_or (words P xs) p 0 ≡ word P xs p
       go (inl l) = get_or-map-range_with_len (word P xs) 0 (length xs) p p 0 l (omega arith)
@@ -100,7 +100,7 @@ module _ {R : Type 0} (P : Pattern R) where
     above = λ j l. bit_above (word P xs p) (slots P) j (word_below xs p) l;
     below = word_below xs p;
     narrow = λ few. let more : 2 ^ slots P ≤ 2 ^ 32 = pow_mono few in omega (arith, word_below xs p);
-    listed = get_d_words xs p;
+    listed = get_or_words xs p;
   }
 
   pub word_alike : (xs ys : List R) (k : ℕ) → (word P xs k ≡ word P ys k) ↔ Alike P xs ys k

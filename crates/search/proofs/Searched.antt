@@ -11,7 +11,7 @@ use Rattle.runs.specs.Words.{mark, word, words, hits}
 use Rattle.runs.proofs.Next.{past, past_out, past_newest, past_older, word_from}
 use Rattle.runs.proofs.Patterns.{slots_of}
 use Rattle.runs.proofs.Steps.{at_top}
-use Rattle.runs.proofs.Worded.{bit_mark, length_words, get_d_words}
+use Rattle.runs.proofs.Worded.{bit_mark, length_words, get_or_words}
 use Rattle.engines.specs.Memory.{Memory, Recalls, Stepped, Moved, Steps, Chain}
 use Rattle.engines.specs.Memory.Steps.{none, more}
 use Rattle.search.specs.Openings.{opening}
@@ -51,7 +51,7 @@ module _ {R : Type 0} (sets : ℕ → R → Bool) (s : Signature) (some : 1 ≤ 
         let (known, h) = stepped (length fits) after (omega arith) chain.steps in
         let size = length_words P xs in
         let same = chain.long in
-        ext_get_or 0 ws (words P xs) (omega arith) (λ k l. known k (omega arith) ∙ sym (get_d_words P xs k))
+        ext_get_or 0 ws (words P xs) (omega arith) (λ k l. known k (omega arith) ∙ sym (get_or_words P xs k))
 
 -- as many words of the sheet bear the last slot's mark as there are hits
 kept_map : (f h : ℕ → Bool) (g : ℕ → ℕ) → ((k : ℕ) → f (g k) ≡ h k) → (ks : List ℕ) → length (filter f (map g ks)) ≡ length (filter h ks)

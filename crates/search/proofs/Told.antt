@@ -11,7 +11,7 @@ use Rattle.runs.proofs.Below.{kept_same}
 use Rattle.runs.proofs.Marked.{mark_decides}
 use Rattle.runs.proofs.Patterns.{slots_of}
 use Rattle.runs.proofs.Places.{trace_to_same}
-use Rattle.runs.proofs.Worded.{bit_mark, length_words, get_d_words}
+use Rattle.runs.proofs.Worded.{bit_mark, length_words, get_or_words}
 use Rattle.search.specs.Laws.{SheetTells}
 use Rattle.search.specs.Traces.{sheet_marks, sheet_hit, hits_of, trace_of}
 
@@ -37,7 +37,7 @@ module _ {R : Type 0} (sets : ℕ → R → Bool) (s : Signature) (some : 1 ≤ 
   all_hits =
       let long = length_words P xs in
       ap (λ (n : ℕ). filter (sheet_hit s (words P xs)) (range_with_len 0 n)) long
-      ∙ kept_same (sheet_hit s (words P xs)) (mark P xs (last_slot P)) 0 (length xs) (λ k _ l. hit_mark (words P xs) k (omega arith) (get_d_words P xs k))
+      ∙ kept_same (sheet_hit s (words P xs)) (mark P xs (last_slot P)) 0 (length xs) (λ k _ l. hit_mark (words P xs) k (omega arith) (get_or_words P xs k))
 
   pub told : SheetTells R sets s xs
   told = record {

@@ -9,7 +9,7 @@ use Rattle.runs.specs.Runs.{Pattern, slots}
 use Rattle.runs.specs.Words.{words, trace}
 use Rattle.runs.proofs.Stopped.{reworked_is}
 use Rattle.runs.proofs.Traced.{trace_is, trace_only}
-use Rattle.runs.proofs.Worded.{length_words, get_d_words}
+use Rattle.runs.proofs.Worded.{length_words, get_or_words}
 use Rattle.records.specs.declared.call.Call.{Call}
 use Rattle.records.specs.declared.call.Call.TheVariants.{Append, Amend, Settle, Word, NextHit, NextFinalHit, Trace, FinalHits, Close}
 use Rattle.records.specs.declared.call.Reply.{Reply}
@@ -35,7 +35,7 @@ module _ {G E R : Type 0} (M : Meaning G E R) (T : Terms G) where
   written b s h =
       let size = length-take-le (length b.readings) s.sheet (omega (arith, h.lengths, h.order)) in
       ext_get_or 0 (take (length b.readings) s.sheet) (words P b.readings) (omega (arith, size, length_words P b.readings))
-      (λ k l. get_or-take (length b.readings) s.sheet k 0 (omega arith) ∙ tells_word P b.readings k _ (h.written k (omega arith)) ∙ sym (get_d_words P b.readings k))
+      (λ k l. get_or-take (length b.readings) s.sheet k 0 (omega arith) ∙ tells_word P b.readings k _ (h.written k (omega arith)) ∙ sym (get_or_words P b.readings k))
 
   module _ (b : Book R) (s t : State G E R) (h : Stands M T b s) where
     abbrev xs : List R

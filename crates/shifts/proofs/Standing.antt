@@ -8,7 +8,7 @@ use Rattle.runs.specs.Runs.{Pattern, slots, Mark}
 use Rattle.runs.specs.Words.{word, words}
 use Rattle.runs.proofs.Next.{past, past_words, past_decides}
 use Rattle.runs.proofs.Patterns.{slots_of}
-use Rattle.runs.proofs.Worded.{told, length_words, get_d_words}
+use Rattle.runs.proofs.Worded.{told, length_words, get_or_words}
 use Rattle.records.specs.States.{Meaning, Terms, State, pattern_by}
 use Rattle.records.specs.Books.{Book}
 use Rattle.records.specs.Sound.{Sound}
@@ -28,7 +28,7 @@ module _ {G E R : Type 0} (M : Meaning G E R) (T : Terms G) (b : Book R) (s : St
   slots_are = slots_of (M.sets T.gauge) T.signature h.slots
 
   pub sheet_word : (k : ℕ) → k < length xs → get_or s.sheet k 0 ≡ word P xs k
-  sheet_word k l = sym (get_or-take (length xs) s.sheet k 0 l) ∙ ap (λ (ws : List ℕ). get_or ws k 0) h.written ∙ get_d_words P xs k
+  sheet_word k l = sym (get_or-take (length xs) s.sheet k 0 l) ∙ ap (λ (ws : List ℕ). get_or ws k 0) h.written ∙ get_or_words P xs k
 
   remembered : (j d : ℕ) → suc j < slots P → d ≤ high P.gaps j → Decides (M.says s.engine j d) ((d < length xs) × Mark P xs j (length xs - suc d))
   remembered j d l le =

@@ -15,7 +15,7 @@ use Rattle.text.proofs.Steps.{err_same}
 use Rattle.text.proofs.Local.{Agree, agree, Local, ok_local, err_local, cond_local, then_local, same_mark, inside, mark_local, number_local, not_long, not_backward}
 use Rattle.signature.specs.declared.join.Join.{Join}
 use Rattle.signature.specs.Slots.{Reads, Within}
-use Rattle.signature.specs.Joins.{nth_gap, no_gap_at, join_at}
+use Rattle.signature.specs.Joins.{gap_at, no_gap_at, join_at}
 use Rattle.signature.specs.Outcomes.{Plan, rest_at, slots_at, signature_at}
 use Rattle.signature.specs.Refused.{Looks, RefusedAlike}
 
@@ -33,7 +33,7 @@ module _ (s t : List ℕ) (p : ℕ) (h : Agree s t p) where
   abbrev stops : Number → ℕ
   stops n = n.end
 
-  gap_local : (a : ℕ) → Local p a (nth_gap s a) (nth_gap t a) ends
+  gap_local : (a : ℕ) → Local p a (gap_at s a) (gap_at t a) ends
   gap_local a =
       then_local p a place ends _ _ _ _ (mark_local s t p h Signature Cross a) (λ b _.
       then_local p b place ends _ _ _ _ (mark_local s t p h Signature Open b) (λ c _.

@@ -18,7 +18,7 @@ use Rattle.runs.specs.declared.gap.Gap.{Gap}
 use Rattle.runs.specs.Gaps.{no_gap}
 use Rattle.signature.specs.declared.join.Join.{Join}
 use Rattle.signature.specs.Slots.{Reads, Within}
-use Rattle.signature.specs.Joins.{nth_gap, no_gap_at, join_at}
+use Rattle.signature.specs.Joins.{gap_at, no_gap_at, join_at}
 use Rattle.signature.specs.Outcomes.{Plan, rest_at, slots_at, signature_at}
 use Rattle.signature.specs.Grammar.{JoinText, none, gap, SlotText, RestText, end, more, SignatureText, slots}
 use Rattle.signature.specs.Refused.{SomeSlot, GoesOn, BeginsSome}
@@ -75,7 +75,7 @@ module _ (T : Part) (fills : Fills T) where
 
   module _ (s : List ℕ) (x : Refusal) where
     -- the gap is refused
-    gap_fault : (a : ℕ) → a ≤ length s → nth_gap s a ≡ Err x → Begins Whole s a x
+    gap_fault : (a : ℕ) → a ≤ length s → gap_at s a ≡ Err x → Begins Whole s a x
     gap_fault a in' is =
         faults (mark_taken Signature Cross s a) _ x is
         (λ f. here Whole s a x in' (mark_place Signature Cross s a x in' f) (fill_mark Cross (MarkThen Open Low) fill_open))
@@ -117,7 +117,7 @@ module _ (T : Part) (fills : Fills T) where
         on)))))
 
     -- the gap stands, and what follows it is refused
-    gap_stands : (a : ℕ) (j : Join) → nth_gap s a ≡ Ok j → (j.end ≤ length s) × (Begins (MarkThen Dash T) s j.end x → Begins Whole s a x)
+    gap_stands : (a : ℕ) (j : Join) → gap_at s a ≡ Ok j → (j.end ≤ length s) × (Begins (MarkThen Dash T) s j.end x → Begins Whole s a x)
     gap_stands a j is =
         let (b, cross, is1) = both (mark_taken Signature Cross s a) _ j is in
         let (c, opened, is2) = both (mark_taken Signature Open s b) _ j is1 in
@@ -189,7 +189,7 @@ module _ {R : Type 0} (reads : Reads R) (goes : GoesOn reads) (within : Within r
   join_fault a in' is =
       ways (is_mark Cross s a) _ _ (Err x) is
       (λ t is1. as_part (Whole Slot goes.some) After s a x (λ u text. after_gap u a text) (
-      faults (nth_gap s a) _ x is1
+      faults (gap_at s a) _ x is1
       (λ f. gap_fault Slot goes.some s x a in' f)
       (λ g ok is2.
       let (w, onward) = gap_stands Slot goes.some s x a g ok in

@@ -14,7 +14,7 @@ use Rattle.runs.specs.declared.gap.Gap.{Gap}
 use Rattle.runs.specs.declared.signature.Signature.{Signature as Shape}
 use Rattle.signature.specs.declared.join.Join.{Join}
 use Rattle.signature.specs.Slots.{Reads, Within}
-use Rattle.signature.specs.Joins.{nth_gap, no_gap_at, join_at}
+use Rattle.signature.specs.Joins.{gap_at, no_gap_at, join_at}
 use Rattle.signature.specs.Outcomes.{Plan, rest_at, slots_at, signature_at, Left, answer}
 use Rattle.signature.specs.Grammar.{JoinText, none, gap, RestText, end, more, SignatureText, slots, OnePlan, ReadsExactly, Answers}
 
@@ -28,7 +28,7 @@ no_gap_sound s a b is =
 abbrev GapText : List ℕ → ℕ → Join → Type 0
 GapText s a j = (h : ℕ) → MarkText Dash s j.end h → JoinText s a h j.gap
 
-gap_sound : (s : List ℕ) (a : ℕ) (j : Join) → nth_gap s a ≡ Ok j → GapText s a j
+gap_sound : (s : List ℕ) (a : ℕ) (j : Join) → gap_at s a ≡ Ok j → GapText s a j
 gap_sound s a j is =
     let (b, cross, is1) = both (mark_taken Signature Cross s a) _ j is in
     let (c, opened, is2) = both (mark_taken Signature Open s b) _ j is1 in
@@ -49,7 +49,7 @@ pub join_sound : (s : List ℕ) (a : ℕ) (j : Join) → join_at s a ≡ Ok j �
 join_sound s a j is =
     ways (is_mark Cross s a) _ _ (Ok j) is
     (λ t is1.
-    let (g, gap', is2) = both (nth_gap s a) _ j is1 in
+    let (g, gap', is2) = both (gap_at s a) _ j is1 in
     let (h, dash, is3) = both (mark_taken Signature Dash s g.end) _ j is2 in
     let (p, clear, out) = both (no_gap_at s h) _ j is3 in
     let (free, same) = no_gap_sound s h p clear in

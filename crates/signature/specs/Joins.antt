@@ -11,8 +11,8 @@ use Rattle.signature.specs.declared.join.Join.{Join}
 use Rattle.runs.specs.Gaps.{no_gap}
 
 -- `x(lo,hi)`: both at most 63, and lo at most hi
-abbrev pub nth_gap : List ℕ → ℕ → Result Join Refusal
-nth_gap s at =
+abbrev pub gap_at : List ℕ → ℕ → Result Join Refusal
+gap_at s at =
     mark_taken Signature Cross s at then (λ o.
     mark_taken Signature Open s o then (λ l.
     number_at 63 s l then (λ lo.
@@ -30,5 +30,5 @@ no_gap_at s at = cond (is_mark Cross s at) (Err (StrayGap at)) (Ok at)
 abbrev pub join_at : List ℕ → ℕ → Result Join Refusal
 join_at s at =
     cond (is_mark Cross s at)
-    (nth_gap s at then (λ g. mark_taken Signature Dash s g.end then (λ e. no_gap_at s e then (λ p. Ok (record { gap = g.gap; end = p })))))
+    (gap_at s at then (λ g. mark_taken Signature Dash s g.end then (λ e. no_gap_at s e then (λ p. Ok (record { gap = g.gap; end = p })))))
     (Ok (record { gap = no_gap; end = at }))

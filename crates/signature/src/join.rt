@@ -1,6 +1,6 @@
 //! What stands between two slots of a signature's text.
 ghost use Rattle.std.specs.Prelude.{◌≡◌, ℕ, ◌+◌, ◌<◌, ◌≤◌, length, IfOk};
-ghost use Rattle.signature.specs.Joins.{nth_gap, no_gap_at, join_at};
+ghost use Rattle.signature.specs.Joins.{gap_at, no_gap_at, join_at};
 
 use runs::gap::Gap;
 use text::mark::{Mark, marked, take_mark};
@@ -16,7 +16,7 @@ pub struct Join {
 
 /// `x(lo,hi)`
 pub fn read_gap(text: &[u8], at: usize) -> Result<Join, Refusal>
-    ensures value { result ≡ nth_gap text.now at }
+    ensures value { result ≡ gap_at text.now at }
     ensures bound { IfOk result (λ j. (j.gap.lo ≤ j.gap.hi) × (j.gap.hi ≤ 63) × (at < j.end) × (j.end ≤ length text.now)) }
 {
     let open = take_mark(text, at, Mark::Gap, Layer::Signature)?;

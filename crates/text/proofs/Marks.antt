@@ -4,9 +4,9 @@ use Rattle.std.proofs.lemmas.Bool.Decides.{nat_tests}
 use Rattle.text.specs.declared.mark.Mark.{Mark}
 use Rattle.text.specs.declared.mark.Mark.TheVariants.{Dash, Gap, Open, Comma, Close, ClassOpen, ClassClose, BarredOpen, BarredClose, Colon, Space, Tilde, At, And, Bang}
 use Rattle.text.specs.Words.{is_digit}
-use Rattle.text.specs.Marks.{code_of, mark_of}
+use Rattle.text.specs.Marks.{code_of, byte_mark}
 
-pub mark_of_code : (m : Mark) → mark_of (code_of m) ≡ Some m
+pub mark_of_code : (m : Mark) → byte_mark (code_of m) ≡ Some m
 mark_of_code Dash = refl
 mark_of_code Gap = refl
 mark_of_code Open = refl
@@ -23,7 +23,7 @@ mark_of_code At = refl
 mark_of_code And = refl
 mark_of_code Bang = refl
 
-pub code_of_mark : (b : ℕ) (m : Mark) → mark_of b ≡ Some m → b ≡ code_of m
+pub code_of_mark : (b : ℕ) (m : Mark) → byte_mark b ≡ Some m → b ≡ code_of m
 code_of_mark b m is = grind (arith, nat_tests)
 
 -- a mark is no digit, and not the 0 that stands for no byte
@@ -45,7 +45,7 @@ mark_no_digit And = (refl, λ e. omega arith)
 mark_no_digit Bang = (refl, λ e. omega arith)
 
 -- a test that tells the mark tells its code
-pub tests_code : (b : ℕ) (m : Mark) (r : Bool) → (r ≡ true → mark_of b ≡ Some m) → (mark_of b ≡ Some m → r ≡ true) → r ≡ eqb b (code_of m)
+pub tests_code : (b : ℕ) (m : Mark) (r : Bool) → (r ≡ true → byte_mark b ≡ Some m) → (byte_mark b ≡ Some m → r ≡ true) → r ≡ eqb b (code_of m)
 tests_code b m r to from =
-    let back : b ≡ code_of m → mark_of b ≡ Some m = λ e. rw e (mark_of_code m) in
+    let back : b ≡ code_of m → byte_mark b ≡ Some m = λ e. rw e (mark_of_code m) in
     grind (arith, nat_tests, code_of_mark b m)

@@ -26,8 +26,8 @@ code_of And = 38
 code_of Bang = 33
 
 -- the mark of a byte
-abbrev pub mark_of : ℕ → Option Mark
-mark_of b =
+abbrev pub byte_mark : ℕ → Option Mark
+byte_mark b =
     cond (b == 45) (Some Dash) (cond (b == 120) (Some Gap) (cond (b == 40) (Some Open) (cond (b == 44) (Some Comma) (cond (b == 41) (Some Close)
     (cond (b == 91) (Some ClassOpen) (cond (b == 93) (Some ClassClose) (cond (b == 123) (Some BarredOpen) (cond (b == 125) (Some BarredClose)
     (cond (b == 58) (Some Colon) (cond (b == 32) (Some Space) (cond (b == 126) (Some Tilde) (cond (b == 64) (Some At)
@@ -36,7 +36,7 @@ mark_of b =
 -- the mark that a word of one byte is
 abbrev pub mark_in : List ℕ → Option Mark
 mark_in [] = None
-mark_in (b ∷ []) = mark_of b
+mark_in (b ∷ []) = byte_mark b
 mark_in (b ∷ c ∷ bs) = None
 
 -- the mark stands at a place

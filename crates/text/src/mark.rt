@@ -1,6 +1,6 @@
 //! Marks: the bytes of a text that are no digits and mean something.
 ghost use Rattle.std.specs.Prelude.{◌≡◌, ℕ, ◌+◌, ◌<◌, ◌≤◌, true, length, IfOk};
-ghost use Rattle.text.specs.Marks.{mark_of, mark_in, is_mark, mark_taken};
+ghost use Rattle.text.specs.Marks.{byte_mark, mark_in, is_mark, mark_taken};
 
 use crate::lexer::{Word, next_word};
 use crate::refusal::{Layer, Refusal};
@@ -41,7 +41,7 @@ pub enum Mark {
 
 // The mark that a byte is, if it is one.
 fn mark_of(byte: u8) -> Option<Mark>
-    ensures { result ≡ mark_of byte }
+    ensures { result ≡ byte_mark byte }
 {
     match char::from(byte) {
         '-' => Some(Mark::Dash),

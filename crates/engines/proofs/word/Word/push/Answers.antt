@@ -4,7 +4,7 @@ use Rattle.runs.specs.Signatures.{gaps_of}
 use Rattle.runs.specs.Bits.{bit}
 use Rattle.engines.specs.Fields.{fields_say}
 use Rattle.engines.specs.Memory.{Moved}
-use Rattle.engines.proofs.Bits.{bit_on, bit_off, bit_mod, mod-bit, mod-other, mod-skip}
+use Rattle.engines.proofs.Bits.{bit_on, bit_off, bit_mod, mod_bit, mod_other, mod_skip}
 use Rattle.engines.proofs.Recalled.{moved_word}
 use Rattle.engines.proofs.Signatures.{gaps_length}
 use Rattle.engines.proofs.Fields.{moved_none, moved_set}
@@ -26,9 +26,9 @@ loop-j-preserved c =
     let M : ℕ → Type 0 = λ memory. Moved s (fields_say (gaps_of s) c.args.self.now.memory) (word % 2 ^ (j + 1)) (fields_say (gaps_of s) memory) in
     elim c.if-word-j-eq1.branch [
       | then-word-j-eq1 w ↦ subst M (sym w.memory-is)
-          (moved_set s _ _ _ _ j c.loop-j.invariant (mod-bit word j ∙ bit_on word j w.if-word-j-eq1.true) (mod-other word j) _ (at.begun j) (at.idle j))
+          (moved_set s _ _ _ _ j c.loop-j.invariant (mod_bit word j ∙ bit_on word j w.if-word-j-eq1.true) (mod_other word j) _ (at.begun j) (at.idle j))
       | else-word-j-eq1 w ↦ subst M (sym w.memory-is)
-          (moved_word s _ _ _ _ (λ i _. mod-skip word j i (bit_off word j w.if-word-j-eq1.false)) c.loop-j.invariant)
+          (moved_word s _ _ _ _ (λ i _. mod_skip word j i (bit_off word j w.if-word-j-eq1.false)) c.loop-j.invariant)
     ]
 
 pub returns : goal.returns

@@ -1,12 +1,12 @@
 use Rattle.std.proofs.Common.{false, replicate, sym, refl, ◌∙◌, rules}
 use Rattle.signature.specs.Slots.{set_of}
 use Rattle.gauges.specs.Codes.{event_at}
-use Rattle.gauges.specs.TablesLemmas.{put_codes, get_d_replicate_same}
+use Rattle.gauges.specs.TablesLemmas.{put_codes, get_or_replicate_same}
 use Rattle.gauges.proofs.Events.{event_end, event_low, event_high, event_none}
 use Rattle.gauges.proofs.event.EventWrittenGauge.write_slot.Goals as goal
 
 pub read_codes-requires : goal.read_codes-requires
-read_codes-requires c = record { long = refl; empty = get_d_replicate_same 256 false }
+read_codes-requires c = record { long = refl; empty = get_or_replicate_same 256 false }
 
 pub returns-in-Ok : goal.returns-in-Ok
 returns-in-Ok c =
@@ -28,5 +28,5 @@ returns-in-Err c =
     record {
       value = told.value ∙ event_end s at c.args.slot c.if-slot-ge32.false;
       wrote = put_codes c.args.self.now.table c.mark_codes-in-Err.new.table c.args.slot (replicate 256 false) (set_of (event_at s at)) (search rules) (search rules) c.mark_codes-in-Err.ensures
-          (λ k l. get_d_replicate_same 256 false k ∙ sym (none k)) (λ k l. none k);
+          (λ k l. get_or_replicate_same 256 false k ∙ sym (none k)) (λ k l. none k);
     }
