@@ -1,7 +1,7 @@
 //! The gap between two neighbouring slots of a signature.
 
 /// Strictly between the places of the two slots lie at least `lo` and at most `hi` places.
-#[derive(Clone, Copy)]
+#[derive(Clone, Copy, PartialEq, Eq, Debug, Default)]
 pub struct Gap {
     pub lo: u8,
     pub hi: u8,

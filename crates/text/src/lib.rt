@@ -4,5 +4,6 @@
 pub mod lexer;
 pub mod mark;
 pub mod number;
+pub mod parsed;
 pub mod refusal;
 pub mod signed;
