@@ -13,7 +13,7 @@ impl Signature {
     {
         Signature {
             slots: 0,
-            gaps: [Gap { lo: 0, hi: 0 }; 31],
+            gaps: [Gap::default(); 31],
         }
     }
 
@@ -21,30 +21,28 @@ impl Signature {
     pub fn used_gaps(&self) -> &[Gap]
         ensures { result.now ≡ gaps_of self.now }
     {
-        &self.gaps[0..self.slots.saturating_sub(1) as usize]
+        &self.gaps[..self.slots.saturating_sub(1) as usize]
     }
 
     /// How many places a run can take, from its first to its last.
     pub fn reach(&self) -> u32
         ensures { result ≡ reach (gaps_of self.now) }
     {
-        let gaps = self.used_gaps();
-        let mut reach = 1;
-        for gap in gaps {
-            reach += u32::from(gap.hi) + 1;
-        }
-        reach
+        1 + self
+            .used_gaps()
+            .iter()
+            .map(|gap| 1 + u32::from(gap.hi))
+            .sum::<u32>()
     }
 
     /// How many places back a mark can depend on: the widest gap and one more, or 0 where there is no gap.
     pub fn window(&self) -> u32
         ensures { result ≡ window (gaps_of self.now) }
     {
-        let gaps = self.used_gaps();
-        let mut window: u32 = 0;
-        for gap in gaps {
-            window = window.max(u32::from(gap.hi) + 1);
-        }
-        window
+        self.used_gaps()
+            .iter()
+            .map(|gap| u32::from(gap.hi) + 1)
+            .max()
+            .unwrap_or(0)
     }
 }

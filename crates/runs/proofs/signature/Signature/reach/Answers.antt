@@ -1,25 +1,29 @@
-use Rattle.std.proofs.Common.{◌≡◌, suc, ◌+◌, ◌≤◌, length, get_or, drop, ap, arith, length-take, rules}
-use Rattle.std.proofs.lemmas.List.{at_drop_more, at_drop_all}
-use Rattle.runs.specs.Gaps.{spans, reach, no_gap}
+use Rattle.std.proofs.Common.{◌≡◌, ◌+◌, ◌-◌, ◌≤◌, sum_by, length, length-take, ap, rules, tests, arith}
+use Rattle.std.proofs.lemmas.Iterator.{YieldsList-from_slice, YieldsList-from_map}
+use Rattle.std.proofs.lemmas.Iterator.Adapters.{fits_from_length, at_most_from_yields_List}
+use Rattle.std.proofs.lemmas.Iterator.Consumers.{sum_by_from_yields_List}
+use Rattle.runs.specs.declared.gap.Gap.{Gap}
+use Rattle.runs.specs.Gaps.{spans}
+use Rattle.runs.proofs.Gaps.{spans_sum, spans_take, narrow_all}
 use Rattle.runs.proofs.signature.Signature.reach.Goals as goal
 
-pub overflow_add-reach-in-loop-gap : goal.overflow_add-reach-in-loop-gap
-overflow_add-reach-in-loop-gap c =
-    let long : length c.used_gaps-gaps.result.now ≤ 31 = simp (c.used_gaps-gaps.ensures, length-take) (omega (arith, c.args.self.now.few)) in
-    let byte : c.from.result ≤ 255 = search rules in
-    omega arith
+pub sum-requires-clause-fits : goal.sum-requires-clause-fits
+sum-requires-clause-fits c =
+    let gs = c.used_gaps.result.now in
+    let long : length gs ≤ 31 = simp (c.used_gaps.ensures, length-take) (omega (arith, c.args.self.now.few)) in
+    fits_from_length _ _ 31 _ (at_most_from_yields_List (YieldsList-from_slice gs cc) (grind arith)) c.map.ensures.closure (omega arith) (λ x r q k. search (rules, tests))
 
-pub loop-gap-preserved : goal.loop-gap-preserved
-loop-gap-preserved c =
-    let gs = c.used_gaps-gaps.result.now in
-    let i = c.loop-gap.gap-index in
-    let more : spans (drop i gs) ≡ suc (get_or gs i no_gap).hi + spans (drop (i + 1) gs) = at_drop_more spans gs i no_gap c.loop-gap-test.true in
-    let byte : (get_or gs i no_gap).hi ≤ 255 = search rules in
-    (omega arith, omega arith)
+total : (c : goal.After-sum) → c.sum.result ≡ spans c.used_gaps.result.now
+total c =
+    let gs = c.used_gaps.result.now in
+    let added : c.sum.result ≡ sum_by (λ (g : Gap). g.hi + 1) gs =
+    sum_by_from_yields_List (λ (g : Gap). g.hi + 1) gs c.map.result _ c.sum.ensures.ran (YieldsList-from_map _ (λ (g : Gap). g.hi + 1) (YieldsList-from_slice gs cc) c.map.ensures.closure (λ x b q k. search (rules, tests))) in
+    omega (arith, added, spans_sum gs)
+
+pub overflow_add-result : goal.overflow_add-result
+overflow_add-result c =
+    let few = spans_take (c.args.self.now.slots - 1) c.args.self.now.gaps (narrow_all c.args.self.now) in
+    omega (arith, total c, ap spans c.used_gaps.ensures, few, c.args.self.now.few)
 
 pub returns : goal.returns
-returns c =
-    let gs = c.used_gaps-gaps.result.now in
-    let none : spans (drop c.loop-gap.gap-index gs) ≡ 0 = at_drop_all spans gs c.loop-gap.gap-index c.loop-gap-test.false in
-    let same = ap reach c.used_gaps-gaps.ensures in
-    omega arith
+returns c = omega (arith, total c, ap spans c.used_gaps.ensures)

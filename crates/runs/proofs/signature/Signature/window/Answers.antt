@@ -1,19 +1,15 @@
-use Rattle.std.proofs.Common.{◌≡◌, suc, ◌+◌, max, get_or, drop, ap, arith}
-use Rattle.std.proofs.lemmas.List.{at_drop_more, at_drop_all}
-use Rattle.runs.specs.Gaps.{window, no_gap}
+use Rattle.std.proofs.Common.{◌≡◌, ◌+◌, max, fold, unwrap_or, ap, ◌∙◌, rules, tests, arith}
+use Rattle.std.proofs.lemmas.Iterator.{YieldsList-from_slice, YieldsList-from_map}
+use Rattle.std.proofs.lemmas.Iterator.Consumers.{reduce_from_yields_List}
+use Rattle.std.proofs.lemmas.List.Folds.{max_of_map}
+use Rattle.runs.specs.declared.gap.Gap.{Gap}
+use Rattle.runs.specs.Gaps.{window}
+use Rattle.runs.proofs.Gaps.{widest}
 use Rattle.runs.proofs.signature.Signature.window.Goals as goal
-
-pub loop-gap-preserved : goal.loop-gap-preserved
-loop-gap-preserved c =
-    let gs = c.used_gaps-gaps.result.now in
-    let i = c.loop-gap.gap-index in
-    let more : window (drop i gs) ≡ max (suc (get_or gs i no_gap).hi) (window (drop (i + 1) gs)) = at_drop_more window gs i no_gap c.loop-gap-test.true in
-    let most : c.max-window.result ≡ max c.loop-gap.window (c.from.result + 1) = c.max-window.ensures in
-    omega arith
 
 pub returns : goal.returns
 returns c =
-    let gs = c.used_gaps-gaps.result.now in
-    let none : window (drop c.loop-gap.gap-index gs) ≡ 0 = at_drop_all window gs c.loop-gap.gap-index c.loop-gap-test.false in
-    let same = ap window c.used_gaps-gaps.ensures in
-    omega arith
+    let gs = c.used_gaps.result.now in
+    let most : c.unwrap_or.result ≡ fold (λ a (g : Gap). max a (g.hi + 1)) 0 gs =
+    c.unwrap_or.ensures ∙ ap (λ o. unwrap_or o 0) (reduce_from_yields_List _ c.map.result _ c.max.ensures.ran (YieldsList-from_map _ (λ (g : Gap). g.hi + 1) (YieldsList-from_slice gs cc) c.map.ensures.closure (λ x b q k. search (rules, tests)))) ∙ max_of_map (λ (g : Gap). g.hi + 1) gs in
+    omega (arith, most, widest 0 gs, ap window c.used_gaps.ensures)
