@@ -13,20 +13,21 @@ pub struct Outcome {
     pub hits: usize,
 }
 
-/// The answer of a search as an outcome.
-pub fn as_outcome(answer: Result<usize, Refusal>) -> Outcome
-    ensures { result ≡ outcome_of answer }
-{
-    match answer {
-        Ok(hits) => Outcome {
-            refusal: 0,
-            place: 0,
-            hits,
-        },
-        Err(refusal) => Outcome {
-            refusal: refusal.number(),
-            place: refusal.place(),
-            hits: 0,
-        },
+impl From<Result<usize, Refusal>> for Outcome {
+    ghost from_gives = { λ answer outcome. outcome ≡ outcome_of answer };
+
+    fn from(answer: Result<usize, Refusal>) -> Outcome {
+        match answer {
+            Ok(hits) => Outcome {
+                refusal: 0,
+                place: 0,
+                hits,
+            },
+            Err(refusal) => Outcome {
+                refusal: refusal.number(),
+                place: refusal.place(),
+                hits: 0,
+            },
+        }
     }
 }

@@ -8,7 +8,7 @@ ghost use Rattle.events.specs.Searches.{searchable, counted, sheet_left};
 use engines::mask::Masks;
 use engines::ring::Ring;
 use engines::word::Word;
-use events::outcome::{Outcome, as_outcome};
+use events::outcome::Outcome;
 use events::searching::search_codes;
 use runs::signature::Signature;
 
@@ -18,7 +18,7 @@ pub extern "C" fn search_word(text: &[u8], codes: &[u8], sheet: &mut [u32]) -> O
     ensures value { result ≡ outcome_of (counted codes.now (searchable 64 text.now (length codes.now) (length sheet.old))) }
     ensures sheet { sheet.new ≡ sheet_left codes.now sheet.old (searchable 64 text.now (length codes.now) (length sheet.old)) }
 {
-    as_outcome(search_codes(Word::new(), text, codes, &mut Signature::new(), sheet))
+    Outcome::from(search_codes(Word::new(), text, codes, &mut Signature::new(), sheet))
 }
 
 /// With the mask engine, which takes every signature.
@@ -27,7 +27,7 @@ pub extern "C" fn search_mask(text: &[u8], codes: &[u8], sheet: &mut [u32]) -> O
     ensures value { result ≡ outcome_of (counted codes.now (searchable 1985 text.now (length codes.now) (length sheet.old))) }
     ensures sheet { sheet.new ≡ sheet_left codes.now sheet.old (searchable 1985 text.now (length codes.now) (length sheet.old)) }
 {
-    as_outcome(search_codes(Masks::new(), text, codes, &mut Signature::new(), sheet))
+    Outcome::from(search_codes(Masks::new(), text, codes, &mut Signature::new(), sheet))
 }
 
 /// With the ring engine, which takes every signature.
@@ -36,5 +36,5 @@ pub extern "C" fn search_ring(text: &[u8], codes: &[u8], sheet: &mut [u32]) -> O
     ensures value { result ≡ outcome_of (counted codes.now (searchable 1985 text.now (length codes.now) (length sheet.old))) }
     ensures sheet { sheet.new ≡ sheet_left codes.now sheet.old (searchable 1985 text.now (length codes.now) (length sheet.old)) }
 {
-    as_outcome(search_codes(Ring::new(), text, codes, &mut Signature::new(), sheet))
+    Outcome::from(search_codes(Ring::new(), text, codes, &mut Signature::new(), sheet))
 }

@@ -1,5 +1,6 @@
-use Rattle.std.proofs.Common.{◌≡◌, ℕ, List, IfOk, string_bytes, ap, subst}
-use Rattle.job.specs.Jobs.{searchable, found, printed, job_text}
+use Rattle.std.proofs.Common.{◌≡◌, ℕ, List, length, IfOk, string_bytes, ap, subst}
+use Rattle.events.specs.Searches.{searchable}
+use Rattle.job.specs.Jobs.{found, printed, job_text}
 use Rattle.job.specs.Printed.{text_of_refusal}
 use Rattle.job.proofs.run.run_job.Goals as goal
 
@@ -8,7 +9,7 @@ unfolding job_text
 returns-in_ok-sheet-in-Ok c =
     let parts = c.in-Ok.parts in
     let is = ap printed c.in-Ok.ensures in
-    let said : IfOk c.run_parts.result (λ t. string_bytes t ≡ found parts.codes.now (searchable parts.text.now parts.codes.now)) = c.run_parts.ensures in
+    let said : IfOk c.run_parts.result (λ t. string_bytes t ≡ found parts.codes.now (searchable 64 parts.text.now (length parts.codes.now) (length parts.codes.now))) = c.run_parts.ensures in
     subst (λ (bs : List ℕ). IfOk c.run_parts.result (λ t. string_bytes t ≡ bs)) is said
 
 pub returns-in-Err : goal.returns-in-Err
