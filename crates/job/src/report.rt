@@ -6,6 +6,7 @@ ghost use Rattle.job.specs.Printed.{text_of_refusal, spaced, hit_line, hit_lines
 use runs::signature::Signature;
 use search::tracing::{is_hit, trace};
 use std::alloc::{AllocError, Global};
+use std::fmt::Write;
 use text::refusal::Refusal;
 
 /// The line of a refusal.
@@ -16,18 +17,17 @@ pub fn refusal_text(heap: Global, refusal: Refusal) -> Result<String, AllocError
 }
 
 // Each place behind a space.
-fn push_places(heap: Global, text: &mut String, places: &[usize]) -> Result<(), AllocError>
+fn push_places(text: &mut String, places: &[usize]) -> Result<(), AllocError>
     ensures { OnOk result (string_bytes text.new ≡ string_bytes text.old ++ spaced places.now) }
 {
     for place in places {
-        text.push_str(format!(in heap; " {place}")?.as_str())?;
+        write!(text, " {place}")?;
     }
     Ok(())
 }
 
 // The line of a hit: its place, and the places of its trace.
 fn push_hit(
-    heap: Global,
     text: &mut String,
     signature: &Signature,
     sheet: &[u32],
@@ -38,10 +38,9 @@ fn push_hit(
 {
     let mut places = [0; 32];
     let _ = trace(signature, sheet, end, &mut places);
-    text.push_str(format!(in heap; "hit {end} at")?.as_str())?;
-    push_places(heap, text, &places[0..signature.slots as usize])?;
-    text.push_str("\n")?;
-    Ok(())
+    write!(text, "hit {end} at")?;
+    push_places(text, &places[..signature.slots as usize])?;
+    writeln!(text)
 }
 
 /// A line for each hit, lowest first, and one with the number of hits and of readings.
@@ -56,10 +55,10 @@ pub fn report_text(
     let mut text = String::new(heap);
     for place in 0..sheet.len() {
         if is_hit(signature, sheet, place) {
-            push_hit(heap, &mut text, signature, sheet, place)?;
+            push_hit(&mut text, signature, sheet, place)?;
         }
     }
     let readings = sheet.len();
-    text.push_str(format!(in heap; "hits {count} of {readings}\n")?.as_str())?;
+    writeln!(text, "hits {count} of {readings}")?;
     Ok(text)
 }

@@ -15,16 +15,29 @@ use runs::signature::Signature;
 use search::searching::search;
 use signature::reader::read_signature;
 use std::alloc::{AllocError, Global};
+use text::refusal::Refusal;
 
 /// What came of the trials so far.
-#[derive(Clone, Copy)]
+#[derive(Clone, Copy, Default)]
 struct Tally {
     alike: u32,
     unlike: u32,
     refused: u32,
 }
 
-// Whether the engine makes of the readings the words that are expected; none where it refuses them.
+impl Tally {
+    // One trial more: whether its words were those expected, or why its engine refused them.
+    fn count(&mut self, outcome: Result<bool, Refusal>) {
+        let kind = match outcome {
+            Ok(true) => &mut self.alike,
+            Ok(false) => &mut self.unlike,
+            Err(_) => &mut self.refused,
+        };
+        *kind = kind.saturating_add(1);
+    }
+}
+
+// Whether the engine makes of the readings the words that are expected, unless it refuses them.
 fn trial<E: Engine + Drop>(
     heap: Global,
     engine: E,
@@ -32,66 +45,46 @@ fn trial<E: Engine + Drop>(
     signature: &Signature,
     readings: &[u8],
     expected: &[u32],
-) -> Result<Option<bool>, AllocError> {
+) -> Result<Result<bool, Refusal>, AllocError> {
     let mut sheet = vec![in heap; 0; readings.len()]?;
-    match search(gauge, engine, signature, readings, &mut sheet) {
-        Ok(_) => Ok(Some(sheet.as_slice() == expected)),
-        Err(_) => Ok(None),
-    }
-}
-
-fn counted(tally: Tally, outcome: Option<bool>) -> Tally {
-    match outcome {
-        Some(true) => Tally {
-            alike: tally.alike.saturating_add(1),
-            ..tally
-        },
-        Some(false) => Tally {
-            unlike: tally.unlike.saturating_add(1),
-            ..tally
-        },
-        None => Tally {
-            refused: tally.refused.saturating_add(1),
-            ..tally
-        },
-    }
+    let searched = search(gauge, engine, signature, readings, &mut sheet);
+    Ok(searched.map(|_| sheet.as_slice() == expected))
 }
 
 // One signature and one list of readings, on all three engines.
-fn compared(
+fn compare(
     heap: Global,
     random: &mut Random,
     length: u32,
-    tally: Tally,
-) -> Result<Tally, AllocError> {
+    tally: &mut Tally,
+) -> Result<(), AllocError> {
     let text = random.signature_text(heap)?;
     let readings = random.readings(heap, length)?;
     let mut gauge = Event::new();
     let mut signature = Signature::new();
     if read_signature(&mut gauge, &mut signature, text.as_bytes()).is_err() {
-        return Ok(counted(tally, Some(false)));
+        tally.count(Ok(false));
+        return Ok(());
     }
     let mut expected = vec![in heap; 0; readings.len()]?;
     plain_sheet(&gauge, &signature, &readings, &mut expected);
-    let ring = trial(heap, Ring::new(), &gauge, &signature, &readings, &expected)?;
-    let mask = trial(heap, Masks::new(), &gauge, &signature, &readings, &expected)?;
-    let word = trial(heap, Word::new(), &gauge, &signature, &readings, &expected)?;
-    Ok(counted(counted(counted(tally, ring), mask), word))
+    tally.count(trial(heap, Ring::new(), &gauge, &signature, &readings, &expected)?);
+    tally.count(trial(heap, Masks::new(), &gauge, &signature, &readings, &expected)?);
+    tally.count(trial(heap, Word::new(), &gauge, &signature, &readings, &expected)?);
+    Ok(())
 }
 
 fn run(rt: &HostRuntime) -> anyhow::Result<()> {
     let mut random = Random::new(2026);
-    let mut tally = Tally {
-        alike: 0,
-        unlike: 0,
-        refused: 0,
-    };
+    let mut tally = Tally::default();
     for length in 1..200 {
-        tally = compared(rt.alloc(), &mut random, length, tally)?;
+        compare(rt.alloc(), &mut random, length, &mut tally)?;
     }
-    let alike = tally.alike;
-    let unlike = tally.unlike;
-    let refused = tally.refused;
+    let Tally {
+        alike,
+        unlike,
+        refused,
+    } = tally;
     println!(rt; "alike {alike}, unlike {unlike}, refused {refused}")?;
     Ok(())
 }

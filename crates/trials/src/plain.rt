@@ -1,37 +1,24 @@
 //! The mark words of a list of readings, place by place and slot by slot.
-ghost use Rattle.std.specs.Prelude.{◌≡◌, ◌<◌, ◌≤◌, length};
+ghost use Rattle.std.specs.Prelude.{◌≡◌, length};
 
 use gauges::event::Event;
+use runs::bits::bears;
 use runs::gap::Gap;
 use runs::signature::Signature;
 use signature::gauge::Gauge;
 
-// Whether a place within the gap before this one bears the slot's mark.
-fn has_earlier(words: &[u32], gap: Gap, slot: u32, place: usize) -> bool
-    requires slot_bound { slot < 32 }
-    requires place_in_bounds { place ≤ length words.now }
-{
-    for earlier in 0..place {
-        let between = place - 1 - earlier;
-        if usize::from(gap.lo) <= between
-            && between <= usize::from(gap.hi)
-            && (words[earlier] >> slot) & 1 == 1
-        {
-            return true;
-        }
-    }
-    false
+// Whether one of the words before a place, the last of them the nearest, bears the slot's mark within the gap.
+fn has_earlier(words: &[u32], gap: Gap, slot: u32) -> bool {
+    let within = usize::from(gap.lo)..=usize::from(gap.hi);
+    words.iter().rev().enumerate().any(|(between, word)| within.contains(&between)
+        && bears(*word, slot))
 }
 
-// The word of a place whose reading has these fits.
-fn plain_word(words: &[u32], signature: &Signature, fits: u32, place: usize) -> u32
-    requires { place ≤ length words.now }
-{
+// The word of a place behind these words, whose reading has these fits.
+fn plain_word(words: &[u32], signature: &Signature, fits: u32) -> u32 {
     let mut word = fits & 1;
     for slot in 1..signature.slots {
-        if (fits >> slot) & 1 == 1
-            && has_earlier(words, signature.gaps[slot as usize - 1], slot - 1, place)
-        {
+        if bears(fits, slot) && has_earlier(words, signature.gaps[slot as usize - 1], slot - 1) {
             word |= 1 << slot;
         }
     }
@@ -44,6 +31,6 @@ pub(crate) fn plain_sheet(gauge: &Event, signature: &Signature, readings: &[u8],
 {
     for (place, reading) in readings.iter().enumerate() {
         let fits = gauge.try_reading(reading);
-        sheet[place] = plain_word(sheet, signature, fits, place);
+        sheet[place] = plain_word(&sheet[..place], signature, fits);
     }
 }

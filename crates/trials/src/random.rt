@@ -2,6 +2,7 @@
 ghost use Rattle.std.specs.Prelude.{◌<◌};
 
 use std::alloc::{AllocError, Global};
+use std::fmt::Write;
 
 #[derive(Drop)]
 pub struct Random {
@@ -26,25 +27,25 @@ impl Random {
     }
 
     // A class of two codes below 5.
-    fn push_slot(&mut self, heap: Global, text: &mut String) -> Result<(), AllocError> {
+    fn push_slot(&mut self, text: &mut String) -> Result<(), AllocError> {
         let first = self.below(5);
         let second = self.below(5);
-        text.push_str(format!(in heap; "[{first} {second}]")?.as_str())
+        write!(text, "[{first} {second}]")
     }
 
     // A gap of at most the widest size.
-    fn push_gap(&mut self, heap: Global, text: &mut String, widest: u32) -> Result<(), AllocError>
+    fn push_gap(&mut self, text: &mut String, widest: u32) -> Result<(), AllocError>
         requires { widest < 64 }
     {
         let hi = self.below(widest + 1);
         let lo = self.below(hi + 1);
-        text.push_str(format!(in heap; "-x({lo},{hi})-")?.as_str())
+        write!(text, "-x({lo},{hi})-")
     }
 
     /// A signature of 1 to 32 slots and gaps of up to 63 places, every second time a shorter one.
     pub(crate) fn signature_text(&mut self, heap: Global) -> Result<String, AllocError> {
         let mut text = String::new(heap);
-        self.push_slot(heap, &mut text)?;
+        self.push_slot(&mut text)?;
         let short = self.below(2) == 0;
         let slots = if short { self.below(6) } else { self.below(32) };
         let widest = if short {
@@ -53,8 +54,8 @@ impl Random {
             self.below(64)
         };
         for _ in 0..slots {
-            self.push_gap(heap, &mut text, widest)?;
-            self.push_slot(heap, &mut text)?;
+            self.push_gap(&mut text, widest)?;
+            self.push_slot(&mut text)?;
         }
         Ok(text)
     }
