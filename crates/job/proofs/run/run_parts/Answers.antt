@@ -2,8 +2,8 @@ use Rattle.std.proofs.Common.{◌≡◌, ℕ, List, ◌++◌, length, IfOk, stri
 use Rattle.search.specs.Traces.{hits_of, trace_of}
 use Rattle.events.specs.Searches.{searchable}
 use Rattle.job.specs.Jobs.{found}
-use Rattle.job.specs.Printed.{hit_lines, last_line, text_of_refusal}
-use Rattle.job.proofs.Plans.{printed_hits, printed_refusal}
+use Rattle.job.specs.Printed.{hit_lines, last_line}
+use Rattle.job.proofs.Plans.{printed_hits}
 use Rattle.job.proofs.run.run_parts.Goals as goal
 
 pub returns-in-Ok : goal.returns-in-Ok
@@ -17,12 +17,3 @@ returns-in-Ok c =
     let said : IfOk c.report_text.result (λ t. string_bytes t ≡ hit_lines (trace_of s sheet) (hits_of s sheet) ++ last_line c.in-Ok.count (length sheet)) = c.report_text.ensures in
     let whole = subst (λ (bs : List ℕ). IfOk c.report_text.result (λ t. string_bytes t ≡ bs)) is said in
     subst (λ (n : ℕ). IfOk c.report_text.result (λ t. string_bytes t ≡ found xs (searchable 64 c.args.text.now (length xs) n))) (sym c.requires) whole
-
-pub returns-in-Err : goal.returns-in-Err
-returns-in-Err c =
-    let xs = c.args.codes.now in
-    let before = c.args.sheet.now in
-    let is = printed_refusal xs (searchable 64 c.args.text.now (length xs) (length before)) c.in-Err.refusal c.in-Err.ensures.value in
-    let said : IfOk c.refusal_text.result (λ t. string_bytes t ≡ text_of_refusal c.in-Err.refusal) = c.refusal_text.ensures in
-    let whole = subst (λ (bs : List ℕ). IfOk c.refusal_text.result (λ t. string_bytes t ≡ bs)) is said in
-    subst (λ (n : ℕ). IfOk c.refusal_text.result (λ t. string_bytes t ≡ found xs (searchable 64 c.args.text.now (length xs) n))) (sym c.requires) whole
