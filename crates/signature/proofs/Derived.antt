@@ -2,6 +2,7 @@
 use Rattle.std.proofs.Common.{◌≡◌, ℕ, zero, suc, ◌+◌, ◌≤◌, Bool, true, false, leb, List, ◌∷◌, length, Ok, Err, Result, sym, refl, ap, ◌∙◌, subst, arith}
 use Rattle.std.proofs.lemmas.Bool.Decides.{nat_tests}
 use Rattle.text.specs.declared.mark.Mark.TheVariants.{Dash, Gap as Cross, Open, Comma, Close}
+use Rattle.text.specs.declared.parsed.Parsed.{Parsed}
 use Rattle.text.specs.declared.refusal.Layer.TheVariants.{Signature}
 use Rattle.text.specs.declared.refusal.Refusal.{Refusal}
 use Rattle.text.specs.Numbers.{number_at}
@@ -12,7 +13,6 @@ use Rattle.text.proofs.Bounds.{mark_inside}
 use Rattle.text.proofs.Derived.{mark_sound, mark_complete, number_sound, number_complete}
 use Rattle.runs.specs.declared.gap.Gap.{Gap}
 use Rattle.runs.specs.declared.signature.Signature.{Signature as Shape}
-use Rattle.signature.specs.declared.join.Join.{Join}
 use Rattle.signature.specs.Slots.{Reads, Within}
 use Rattle.signature.specs.Joins.{gap_at, no_gap_at, join_at}
 use Rattle.signature.specs.Outcomes.{Plan, rest_at, slots_at, signature_at, Left, answer}
@@ -25,10 +25,10 @@ no_gap_sound s a b is =
     (λ t f. (t, ok_same _ _ f))
 
 -- a gap, and the `-` behind it
-abbrev GapText : List ℕ → ℕ → Join → Type 0
-GapText s a j = (h : ℕ) → MarkText Dash s j.end h → JoinText s a h j.gap
+abbrev GapText : List ℕ → ℕ → Parsed Gap → Type 0
+GapText s a j = (h : ℕ) → MarkText Dash s j.end h → JoinText s a h j.value
 
-gap_sound : (s : List ℕ) (a : ℕ) (j : Join) → gap_at s a ≡ Ok j → GapText s a j
+gap_sound : (s : List ℕ) (a : ℕ) (j : Parsed Gap) → gap_at s a ≡ Ok j → GapText s a j
 gap_sound s a j is =
     let (b, cross, is1) = both (mark_taken Signature Cross s a) _ j is in
     let (c, opened, is2) = both (mark_taken Signature Open s b) _ j is1 in
@@ -45,7 +45,7 @@ gap_sound s a j is =
     (mark_sound s hi.end Signature Close g close) dash le high'.1))
     (λ t f. absurd (let z : ◌≡◌ {A = ℕ} 0 1 = cc in omega arith))
 
-pub join_sound : (s : List ℕ) (a : ℕ) (j : Join) → join_at s a ≡ Ok j → JoinText s a j.end j.gap × (is_mark Cross s j.end ≡ false)
+pub join_sound : (s : List ℕ) (a : ℕ) (j : Parsed Gap) → join_at s a ≡ Ok j → JoinText s a j.end j.value × (is_mark Cross s j.end ≡ false)
 join_sound s a j is =
     ways (is_mark Cross s a) _ _ (Ok j) is
     (λ t is1.
@@ -53,11 +53,11 @@ join_sound s a j is =
     let (h, dash, is3) = both (mark_taken Signature Dash s g.end) _ j is2 in
     let (p, clear, out) = both (no_gap_at s h) _ j is3 in
     let (free, same) = no_gap_sound s h p clear in
-    let here = subst (λ i. JoinText s a i g.gap × (is_mark Cross s i ≡ false)) same (gap_sound s a g gap' h (mark_sound s g.end Signature Dash h dash), free) in
-    subst (λ j. JoinText s a j.end j.gap × (is_mark Cross s j.end ≡ false)) (ok_same _ _ out) here)
-    (λ t out. subst (λ j. JoinText s a j.end j.gap × (is_mark Cross s j.end ≡ false)) (ok_same _ _ out) (none, t))
+    let here = subst (λ i. JoinText s a i g.value × (is_mark Cross s i ≡ false)) same (gap_sound s a g gap' h (mark_sound s g.end Signature Dash h dash), free) in
+    subst (λ j. JoinText s a j.end j.value × (is_mark Cross s j.end ≡ false)) (ok_same _ _ out) here)
+    (λ t out. subst (λ j. JoinText s a j.end j.value × (is_mark Cross s j.end ≡ false)) (ok_same _ _ out) (none, t))
 
-join_complete : (s : List ℕ) (a b : ℕ) (g : Gap) → JoinText s a b g → is_mark Cross s b ≡ false → join_at s a ≡ Ok (record { gap = g; end = b })
+join_complete : (s : List ℕ) (a b : ℕ) (g : Gap) → JoinText s a b g → is_mark Cross s b ≡ false → join_at s a ≡ Ok (record { value = g; end = b })
 join_complete s a _ _ none free = rw free refl
 join_complete s a h _ (gap {b = b} {c = c} {d = d} {e = e} {f = f} {g = g} {lo = lo} {hi = hi} cross opened low comma high close dash le small) free =
     let t : leb lo hi ≡ true = grind (arith, nat_tests) in

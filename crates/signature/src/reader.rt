@@ -1,6 +1,7 @@
 //! Reads the text of a signature with any written gauge.
 ghost use Rattle.std.specs.Prelude.{◌≡◌, ℕ, ◌+◌, ◌-◌, ◌<◌, ◌≤◌, true, false, List, [], ◌∷◌, ◌++◌, is_ok};
 ghost use Rattle.runs.specs.Signatures.{gaps_of, Blank, BlankFrom};
+ghost use Rattle.signature.specs.Joins.{Allowed};
 ghost use Rattle.signature.specs.Outcomes.{slots_at, signature_at, Left, answer};
 ghost use Rattle.signature.specs.Grammar.{ReadsExactly, OnePlan, Answers};
 ghost use Rattle.signature.specs.Refused.{Looks, RefusedAlike, GoesOn, BeginsSome};
@@ -30,8 +31,7 @@ fn clear<G: Gauge>(gauge: &mut G, signature: &mut Signature)
 fn add_slot(signature: &mut Signature, gap: Gap)
     requires some { 0 < signature.old.slots }
     requires room { signature.old.slots < 32 }
-    requires ordered { gap.lo ≤ gap.hi }
-    requires narrow { gap.hi ≤ 63 }
+    requires allowed { Allowed gap }
     ensures slots { signature.new.slots ≡ signature.old.slots + 1 }
     ensures gaps { gaps_of signature.new ≡ gaps_of signature.old ++ (gap ∷ []) }
     ensures past { BlankFrom signature.old (signature.old.slots - 1) → BlankFrom signature.new (signature.new.slots - 1) }
@@ -65,7 +65,7 @@ fn read_slots<G: WrittenGauge>(
         }
         let join = read_join(text, next)?;
         at = gauge.write_slot(slot, text, join.end)?;
-        add_slot(signature, join.gap);
+        add_slot(signature, join.value);
     }
     Ok(())
 }

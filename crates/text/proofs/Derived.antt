@@ -4,7 +4,7 @@ use Rattle.std.specs.List.{prefix_len}
 use Rattle.std.proofs.lemmas.Bool.{cases_Bool}
 use Rattle.std.proofs.lemmas.Bool.Decides.{nat_tests}
 use Rattle.text.specs.declared.mark.Mark.{Mark}
-use Rattle.text.specs.declared.number.Number.{Number}
+use Rattle.text.specs.declared.parsed.Parsed.{Parsed}
 use Rattle.text.specs.declared.refusal.Layer.{Layer}
 use Rattle.text.specs.declared.refusal.Refusal.{Refusal}
 use Rattle.text.specs.declared.refusal.Refusal.TheVariants.{NoDigit, OutOfRange}
@@ -42,10 +42,10 @@ module _ (s : List ℕ) (a : ℕ) where
   pub mark_complete : (l : Layer) (m : Mark) (b : ℕ) → MarkText m s a b → mark_taken l m s a ≡ Ok b
   mark_complete l m b t = rw t.stands (ap Ok (sym t.behind))
 
-  pub number_sound : (limit : ℕ) (n : Number) → number_at limit s a ≡ Ok n → NumberText s a n.end n.value × (n.value ≤ limit) × (n.place ≡ a)
+  pub number_sound : (limit : ℕ) (n : Parsed ℕ) → number_at limit s a ≡ Ok n → NumberText s a n.end n.value × (n.value ≤ limit)
   number_sound limit n is =
       let k = prefix_len is_digit (drop a s) in
-      let told : (n.end ≡ a + prefix_len is_digit (drop a s)) × (n.place ≡ a) × (n.value ≡ value_of (digits_at s a)) × (n.value ≤ limit) × (0 < prefix_len is_digit (drop a s)) = grind (arith, nat_tests) in
+      let told : (n.end ≡ a + prefix_len is_digit (drop a s)) × (n.value ≡ value_of (digits_at s a)) × (n.value ≤ limit) × (0 < prefix_len is_digit (drop a s)) = grind (arith, nat_tests) in
       let far : n.end - a ≡ prefix_len is_digit (drop a s) = omega arith in (
         record {
           some = omega arith;
@@ -53,13 +53,12 @@ module _ (s : List ℕ) (a : ℕ) where
               let at : a + (j - a) ≡ j = omega arith in
               ap (λ i. is_digit (get_or s i 0)) (sym at) ∙ ap is_digit (sym (get_or-drop a s (j - a) 0)) ∙ front_passes is_digit (drop a s) (j - a) (omega arith);
           stops = ap (λ i. is_digit (get_or s i 0)) told.0 ∙ ap is_digit (sym (get_or-drop a s k 0)) ∙ leading_stops is_digit (drop a s) refl;
-          value = rw far (sym told.2);
+          value = rw far (sym told.1);
         },
-        told.3,
-        told.1,
+        told.2,
       )
 
-  pub number_complete : (limit b v : ℕ) → NumberText s a b v → v ≤ limit → number_at limit s a ≡ Ok (record { value = v; place = a; end = b })
+  pub number_complete : (limit b v : ℕ) → NumberText s a b v → v ≤ limit → number_at limit s a ≡ Ok (record { value = v; end = b })
   number_complete limit b v t few =
       let some = t.some in
       let on : a + (b - a) ≡ b = omega arith in

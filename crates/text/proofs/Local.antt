@@ -141,9 +141,9 @@ module _ (s t : List ℕ) (p : ℕ) (h : Agree s t p) where
   pub number_local : (limit a : ℕ) → Local p a (number_at limit s a) (number_at limit t a) (λ n. n.end)
   number_local limit a = record {
     ok = λ n is l.
-        let (text, few, place) = number_sound s a limit n is in
+        let (text, few) = number_sound s a limit n is in
         let some = text.some in
-        (omega arith, number_complete t a limit n.end n.value (same_number a n.end n.value l text) few ∙ ap (λ k. Ok (record { value = n.value; place = k; end = n.end })) (sym place));
+        (omega arith, number_complete t a limit n.end n.value (same_number a n.end n.value l text) few);
     err = λ x is at l. go x is at l;
   }
     where

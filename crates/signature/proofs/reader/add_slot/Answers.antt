@@ -11,8 +11,8 @@ invariant_of-signature c =
     record {
       few = omega (arith, c.requires.room);
       long = simp length-set s.long;
-      ordered = λ j l. each_set (λ x. x.lo ≤ x.hi) gs i g j c.requires.ordered (s.ordered j l);
-      narrow = λ j l. each_set (λ x. x.hi ≤ 63) gs i g j c.requires.narrow (s.narrow j l);
+      ordered = λ j l. each_set (λ x. x.lo ≤ x.hi) gs i g j c.requires.allowed.0 (s.ordered j l);
+      narrow = λ j l. each_set (λ x. x.hi ≤ 63) gs i g j c.requires.allowed.1 (s.narrow j l);
     }
 
 pub returns : goal.returns

@@ -49,8 +49,7 @@ returns-in_err-at-2 g c =
 pub add_slot-requires : goal.add_slot-requires
 add_slot-requires g c =
     let h = c.loop-at.invariant in
-    let b = c.in_ok-join.ensures.bound in
-    record { some = h.some; room = c.if-slot-ge32.false; ordered = b.0; narrow = b.1 }
+    record { some = h.some; room = c.if-slot-ge32.false; allowed = c.in_ok-join.ensures.allowed }
 
 pub loop-at-smaller : goal.loop-at-smaller
 loop-at-smaller g c = let few = c.if-slot-ge32.false in omega (arith, c.add_slot.ensures.slots)
