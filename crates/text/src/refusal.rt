@@ -2,6 +2,7 @@
 ghost use Rattle.std.specs.Prelude.{◌≡◌, Some};
 ghost use Rattle.text.specs.Refusals.{number_of, layer_of, place_of, layer_name, refusal_line};
 
+use std::error::Error;
 use std::fmt;
 
 /// The part of the software that refuses.
@@ -163,3 +164,5 @@ impl fmt::Display for Refusal {
         write!(f, "refused {number} {layer} {place}")
     }
 }
+
+impl Error for Refusal {}
