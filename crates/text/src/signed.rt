@@ -9,10 +9,10 @@ use crate::parsed::Parsed;
 use crate::refusal::Refusal;
 
 /// The greatest number.
-const GREATEST: u32 = 2147483647;
+const GREATEST: u32 = i32::MAX as u32;
 
 /// The greatest that may stand behind a `-`.
-const FARTHEST: u32 = 2147483648;
+const FARTHEST: u32 = GREATEST + 1;
 
 /// The signed number that begins at a place.
 pub fn read_signed(text: &[u8], at: usize) -> Result<Parsed<i32>, Refusal>
@@ -26,12 +26,12 @@ pub fn read_signed(text: &[u8], at: usize) -> Result<Parsed<i32>, Refusal>
             end: number.end,
         });
     }
-    match read_number(text, at + 1, FARTHEST) {
-        Ok(number) => Ok(Parsed {
-            value: -i64::from(number.value) as i32,
-            end: number.end,
-        }),
-        Err(Refusal::OutOfRange { .. }) => Err(Refusal::OutOfRange { place: at }),
-        Err(refusal) => Err(refusal),
-    }
+    let number = read_number(text, at + 1, FARTHEST).map_err(|refusal| match refusal {
+        Refusal::OutOfRange { .. } => Refusal::OutOfRange { place: at },
+        _ => refusal,
+    })?;
+    Ok(Parsed {
+        value: -i64::from(number.value) as i32,
+        end: number.end,
+    })
 }
