@@ -1,5 +1,6 @@
 //! Numbers: one or more decimal digits, leading zeros allowed, however many.
-ghost use Rattle.std.specs.Prelude.{◌≡◌, ℕ, ◌<◌, ◌≤◌, true, length, IfOk, slice_index};
+ghost use Rattle.std.specs.Prelude.{◌≡◌, ◌≤◌, IfOk};
+ghost use Rattle.std.specs.List.{AllPass};
 ghost use Rattle.text.specs.Words.{is_digit};
 ghost use Rattle.text.specs.Numbers.{value_of, within, number_at};
 ghost use Rattle.text.specs.Parsed.{Ahead};
@@ -10,10 +11,11 @@ use crate::refusal::Refusal;
 
 // The number that the digits write, unless it is above `limit`.
 fn value_within(digits: &[u8], limit: u32) -> Option<u32>
-    requires { (k : ℕ) → k < length digits.now → is_digit (slice_index digits.now k) ≡ true }
+    requires { AllPass is_digit digits.now }
     ensures { result ≡ within limit (value_of digits.now) }
 {
     let mut value: u64 = 0;
+    // A `for`: a fold that may stop would test each sum for overflow, which the limit rules out here.
     for digit in digits {
         value = value * 10 + u64::from(*digit - b'0');
         if value > u64::from(limit) {

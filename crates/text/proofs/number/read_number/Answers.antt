@@ -1,9 +1,8 @@
 use Rattle.std.proofs.Common.{◌≡◌, ◌+◌, ◌≤◌, length, drop, arith, length-drop, length-take-le, get_or-take}
 use Rattle.std.specs.List.{prefix_len}
-use Rattle.std.proofs.lemmas.List.Sums.{prefix_len-le-length, prefix_len-drop_all}
+use Rattle.std.proofs.lemmas.List.Sums.{prefix_len-le-length, prefix_len-drop_all, prefix_len_passes}
 use Rattle.std.proofs.lemmas.Bool.Decides.{nat_tests}
 use Rattle.text.specs.Words.{is_digit, digits_at}
-use Rattle.text.proofs.Digits.{front_passes}
 use Rattle.text.proofs.number.read_number.Goals as goal
 use Rattle.text.proofs.number.read_number.Goals.{In-Digits}
 
@@ -30,7 +29,7 @@ told c =
     }
 
 pub value_within-requires : goal.value_within-requires
-value_within-requires c = let t = told c in λ k h. grind (arith, front_passes, get_or-take)
+value_within-requires c = let t = told c in λ k d h. grind (arith, prefix_len_passes, get_or-take)
 
 pub returns-in-Some : goal.returns-in-Some
 returns-in-Some c =
