@@ -9,6 +9,9 @@ use text::number::read_number;
 use text::parsed::Parsed;
 use text::refusal::{Layer, Refusal};
 
+/// The most places that a gap may have.
+const WIDEST: u32 = 63;
+
 /// `x(lo,hi)`
 pub fn read_gap(text: &[u8], at: usize) -> Result<Parsed<Gap>, Refusal>
     ensures value { result ≡ gap_at text.now at }
@@ -17,9 +20,9 @@ pub fn read_gap(text: &[u8], at: usize) -> Result<Parsed<Gap>, Refusal>
 {
     let open = take_mark(text, at, Mark::Gap, Layer::Signature)?;
     let first = take_mark(text, open, Mark::Open, Layer::Signature)?;
-    let lo = read_number(text, first, 63)?;
+    let lo = read_number(text, first, WIDEST)?;
     let second = take_mark(text, lo.end, Mark::Comma, Layer::Signature)?;
-    let hi = read_number(text, second, 63)?;
+    let hi = read_number(text, second, WIDEST)?;
     if lo.value > hi.value {
         return Err(Refusal::Backward {
             layer: Layer::Signature,

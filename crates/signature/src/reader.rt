@@ -13,6 +13,9 @@ use runs::signature::Signature;
 use text::mark::{Mark, take_mark};
 use text::refusal::{Layer, Refusal};
 
+/// The most slots that a signature may have.
+const MOST_SLOTS: u32 = 32;
+
 /// The most bytes that the text of a signature may have.
 const LONGEST: usize = 4096;
 
@@ -21,7 +24,7 @@ fn clear<G: Gauge>(gauge: &mut G, signature: &mut Signature)
     ensures empty { (j : ℕ) → j < 32 → (x : G.Reading) → G.Gauge.sets gauge.new j x ≡ false }
     ensures blank { Blank signature.new }
 {
-    for slot in 0..32 {
+    for slot in 0..MOST_SLOTS {
         gauge.empty_slot(slot);
     }
     *signature = Signature::new();
@@ -57,7 +60,7 @@ fn read_slots<G: WrittenGauge>(
     while at < text.len() {
         let next = take_mark(text, at, Mark::Dash, Layer::Signature)?;
         let slot = signature.slots;
-        if slot >= 32 {
+        if slot >= MOST_SLOTS {
             return Err(Refusal::ExtraSlot {
                 layer: Layer::Signature,
                 place: next,
@@ -80,6 +83,7 @@ fn read_slots<G: WrittenGauge>(
 /// - `begins`: over a gauge whose refused slots can go on to some slot, the bytes before any refusal's place begin some
 ///   text of the grammar: nothing before that place is at fault.
 /// - `answers`: the answer is no refusal exactly where the grammar derives a plan, and then that plan is in hand.
+// The signature is lent, and not answered: callers rely on it that a refusal leaves theirs with no slots and every gap 0 to 0.
 pub fn read_signature<G: WrittenGauge>(
     gauge: &mut G,
     signature: &mut Signature,
@@ -97,11 +101,9 @@ pub fn read_signature<G: WrittenGauge>(
     if text.len() > LONGEST {
         return Err(Refusal::LongText);
     }
-    match read_slots(gauge, signature, text) {
-        Ok(()) => Ok(()),
-        Err(refusal) => {
-            clear(gauge, signature);
-            Err(refusal)
-        }
+    let answer = read_slots(gauge, signature, text);
+    if answer.is_err() {
+        clear(gauge, signature);
     }
+    answer
 }
