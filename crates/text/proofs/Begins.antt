@@ -121,7 +121,7 @@ here T s a x in' is fills =
 pub mark_place : (l : Layer) (m : Mark) (s : List ℕ) (a : ℕ) (x : Refusal) → a ≤ length s → mark_taken l m s a ≡ Err x → place_of x ≡ a
 mark_place l m s a x in' is =
     ways (is_mark m s a) _ _ (Err x) is
-    (λ t f. absurd (let z : ◌≡◌ {A = ℕ} 0 1 = cc in omega arith))
+    (λ t f. cc)
     (λ t f. ap place_of (sym (err_same (NoMark l (place_in s a)) x f)) ∙ omega arith)
 
 pub number_place : (limit : ℕ) (s : List ℕ) (a : ℕ) (x : Refusal) → a ≤ length s → number_at limit s a ≡ Err x → place_of x ≡ a

@@ -28,7 +28,7 @@ leading_stops p (x ∷ xs) z =
 -- a front that passes and what does not behind it is the longest
 leading_is : (p : ℕ → Bool) (xs : List ℕ) (n : ℕ) → p 0 ≡ false → ((k : ℕ) → k < n → p (get_or xs k 0) ≡ true) → p (get_or xs n 0) ≡ false → prefix_len p xs ≡ n
 leading_is p [] zero z all stop = refl
-leading_is p [] (suc n) z all stop = absurd (let z : ◌≡◌ {A = ℕ} 0 1 = grind (arith, all 0 (omega arith)) in omega arith)
+leading_is p [] (suc n) z all stop = grind (arith, all 0 (omega arith))
 leading_is p (x ∷ xs) zero z all stop = rw stop refl
 leading_is p (x ∷ xs) (suc n) z all stop =
     let on = leading_is p xs n z (λ k l. all (suc k) (omega arith)) stop in
@@ -81,7 +81,7 @@ module _ (s : List ℕ) (a : ℕ) where
       (λ (t : is_digit (get_or s a 0) ≡ true). inr (
       let here : a + 0 ≡ a = omega arith in
       let first : is_digit (get_or (drop a s) 0 0) ≡ true = ap is_digit (get_or-drop a s 0 0) ∙ ap (λ i. is_digit (get_or s i 0)) here ∙ t in
-      let some : prefix_len is_digit (drop a s) ≡ 0 → ⊥ = λ z. let stop = leading_stops is_digit (drop a s) refl in let w : ◌≡◌ {A = ℕ} 0 1 = grind (arith, nat_tests) in omega arith in
+      let some : prefix_len is_digit (drop a s) ≡ 0 → ⊥ = λ z. let stop = leading_stops is_digit (drop a s) refl in grind (arith, nat_tests) in
       grind (arith, nat_tests)))
       (λ (f : is_digit (get_or s a 0) ≡ false). inl (f, let is' = number_none limit f in cc))
       (cases_Bool (is_digit (get_or s a 0)))
@@ -91,7 +91,7 @@ pub digit_no_mark : (m : Mark) (s : List ℕ) (a : ℕ) → is_digit (get_or s a
 digit_no_mark m s a d = let none = (mark_no_digit m).0 in go (cases_Bool (is_mark m s a))
   where
     go : (is_mark m s a ≡ true) ⊎ (is_mark m s a ≡ false) → is_mark m s a ≡ false
-    go (inl t) = absurd (let same : get_or s a 0 ≡ code_of m = grind (arith, nat_tests) in let z : ◌≡◌ {A = ℕ} 0 1 = grind (arith, ap is_digit same) in omega arith)
+    go (inl t) = absurd (let same : get_or s a 0 ≡ code_of m = grind (arith, nat_tests) in grind (arith, ap is_digit same))
     go (inr f) = f
 
 -- where one mark stands, no other does

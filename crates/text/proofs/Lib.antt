@@ -4,5 +4,5 @@ pub mod Words
 pub mod Bounds
 pub mod Steps
 pub mod Derived
-pub mod Local
 pub mod Begins
+pub mod Local
