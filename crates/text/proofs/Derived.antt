@@ -1,7 +1,9 @@
 -- Marks and numbers are read just where the grammar has them.
-use Rattle.std.proofs.Common.{◌≡◌, ℕ, zero, suc, ◌+◌, ◌-◌, ◌<◌, ◌≤◌, Bool, true, false, eqb, ◌⊎◌, List, [], ◌∷◌, get_or, drop, Ok, Err, sym, refl, ap, ◌∙◌, inl, inr, ⊎_elim, one-add, arith, get_or-drop}
+use Rattle.std.proofs.Common.{◌≡◌, ℕ, ◌+◌, ◌-◌, ◌<◌, ◌≤◌, Bool, true, false, eqb, ◌⊎◌, List, length, get_or, drop, Ok, Err, sym, refl, ap, ◌∙◌, inl, inr, ⊎_elim, arith, get_or-drop}
 use Rattle.std.specs.List.{prefix_len}
-use Rattle.std.proofs.lemmas.Bool.{cases_Bool}
+use Rattle.std.proofs.lemmas.List.{get_or_past}
+use Rattle.std.proofs.lemmas.List.Sums.{prefix_len_passes, prefix_len_stops, prefix_len_is}
+use Rattle.std.proofs.lemmas.Bool.{cases_Bool, cases_lt}
 use Rattle.std.proofs.lemmas.Bool.Decides.{nat_tests}
 use Rattle.text.specs.declared.mark.Mark.{Mark}
 use Rattle.text.specs.declared.parsed.Parsed.{Parsed}
@@ -12,27 +14,22 @@ use Rattle.text.specs.Words.{is_digit, digits_at, place_in}
 use Rattle.text.specs.Numbers.{value_of, number_at}
 use Rattle.text.specs.Marks.{code_of, is_mark, mark_taken}
 use Rattle.text.specs.Grammar.{MarkText, NumberText}
-use Rattle.text.proofs.Digits.{front_passes}
 use Rattle.text.proofs.Marks.{mark_no_digit}
 
 -- what ends the longest front that passes does not pass
 leading_stops : (p : ℕ → Bool) (xs : List ℕ) → p 0 ≡ false → p (get_or xs (prefix_len p xs) 0) ≡ false
-leading_stops p [] z = z
-leading_stops p (x ∷ xs) z =
-    let on = leading_stops p xs z in
+leading_stops p xs z =
     ⊎_elim
-    (λ (t : p x ≡ true). rw (t, one-add) on)
-    (λ (f : p x ≡ false). rw f f)
-    (cases_Bool (p x))
+    (λ (l : prefix_len p xs < length xs). prefix_len_stops p xs 0 l)
+    (λ (l : length xs ≤ prefix_len p xs). ap p (get_or_past xs (prefix_len p xs) 0 l) ∙ z)
+    (cases_lt (prefix_len p xs) (length xs))
 
 -- a front that passes and what does not behind it is the longest
 leading_is : (p : ℕ → Bool) (xs : List ℕ) (n : ℕ) → p 0 ≡ false → ((k : ℕ) → k < n → p (get_or xs k 0) ≡ true) → p (get_or xs n 0) ≡ false → prefix_len p xs ≡ n
-leading_is p [] zero z all stop = refl
-leading_is p [] (suc n) z all stop = grind (arith, all 0 (omega arith))
-leading_is p (x ∷ xs) zero z all stop = rw stop refl
-leading_is p (x ∷ xs) (suc n) z all stop =
-    let on = leading_is p xs n z (λ k l. all (suc k) (omega arith)) stop in
-    rw (all 0 (omega arith), on, one-add) refl
+leading_is p xs n z all stop =
+    let past = get_or_past xs (length xs) 0 (omega arith) in
+    let all' = all (length xs) in
+    prefix_len_is p xs n 0 (grind arith) all (λ l. stop)
 
 module _ (s : List ℕ) (a : ℕ) where
   -- a mark is taken just where it stands
@@ -51,7 +48,7 @@ module _ (s : List ℕ) (a : ℕ) where
           some = omega arith;
           digits = λ j l m.
               let at : a + (j - a) ≡ j = omega arith in
-              ap (λ i. is_digit (get_or s i 0)) (sym at) ∙ ap is_digit (sym (get_or-drop a s (j - a) 0)) ∙ front_passes is_digit (drop a s) (j - a) (omega arith);
+              ap (λ i. is_digit (get_or s i 0)) (sym at) ∙ ap is_digit (sym (get_or-drop a s (j - a) 0)) ∙ prefix_len_passes is_digit (drop a s) (j - a) 0 (omega arith);
           stops = ap (λ i. is_digit (get_or s i 0)) told.0 ∙ ap is_digit (sym (get_or-drop a s k 0)) ∙ leading_stops is_digit (drop a s) refl;
           value = rw far (sym told.1);
         },

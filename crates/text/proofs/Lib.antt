@@ -1,6 +1,4 @@
-pub mod Digits
 pub mod Marks
-pub mod Words
 pub mod Bounds
 pub mod Steps
 pub mod Derived
