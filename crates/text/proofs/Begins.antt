@@ -12,7 +12,7 @@ use Rattle.text.specs.Numbers.{value_of, number_at}
 use Rattle.text.specs.Marks.{code_of, is_mark, mark_taken}
 use Rattle.text.specs.Grammar.{MarkText, NumberText}
 use Rattle.text.specs.Places.{Begins}
-use Rattle.text.proofs.Steps.{err_same, ways}
+use Rattle.text.proofs.Steps.{ways}
 use Rattle.text.proofs.Marks.{mark_no_digit}
 use Rattle.text.proofs.Derived.{number_refused}
 
@@ -122,7 +122,7 @@ pub mark_place : (l : Layer) (m : Mark) (s : List ℕ) (a : ℕ) (x : Refusal) �
 mark_place l m s a x in' is =
     ways (is_mark m s a) _ _ (Err x) is
     (λ t f. cc)
-    (λ t f. ap place_of (sym (err_same (NoMark l (place_in s a)) x f)) ∙ omega arith)
+    (λ t f. let is' : x ≡ NoMark l (place_in s a) = cc in ap place_of is' ∙ omega arith)
 
 pub number_place : (limit : ℕ) (s : List ℕ) (a : ℕ) (x : Refusal) → a ≤ length s → number_at limit s a ≡ Err x → place_of x ≡ a
 number_place limit s a x in' is =

@@ -1,5 +1,5 @@
 use Rattle.std.proofs.Common.{ℕ, ◌+◌, ◌-◌, ◌*◌, ◌≤◌, List, [], ◌∷◌, arith}
-use Rattle.std.proofs.lemmas.List.{at_drop_more, at_drop_all}
+use Rattle.std.proofs.lemmas.List.{at_drop_more}
 use Rattle.std.proofs.lemmas.Bool.Decides.{nat_tests}
 use Rattle.text.specs.Numbers.{value_after}
 use Rattle.text.proofs.number.value_within.Goals as goal
@@ -13,13 +13,3 @@ pub returns-then-value-from : goal.returns-then-value-from
 returns-then-value-from c =
     let e = at_drop_more (value_after c.loop-digit.value) c.args.digits.now c.loop-digit.digit-index 0 c.loop-digit-test.true in
     grind (arith, nat_tests, value_ge)
-
-pub loop-digit-preserved : goal.loop-digit-preserved
-loop-digit-preserved c =
-    let e = at_drop_more (value_after c.loop-digit.value) c.args.digits.now c.loop-digit.digit-index 0 c.loop-digit-test.true in
-    grind (arith, nat_tests)
-
-pub returns : goal.returns
-returns c =
-    let e = at_drop_all (value_after c.loop-digit.value) c.args.digits.now c.loop-digit.digit-index c.loop-digit-test.false in
-    grind (arith, nat_tests)
