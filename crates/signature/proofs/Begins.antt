@@ -11,7 +11,7 @@ use Rattle.text.specs.Words.{is_digit}
 use Rattle.text.specs.Numbers.{number_at}
 use Rattle.text.specs.Marks.{is_mark, mark_taken}
 use Rattle.text.specs.Places.{Begins}
-use Rattle.text.proofs.Steps.{ok_same, err_same, no_refusal, both, faults, ways}
+use Rattle.text.proofs.Steps.{ok_same, err_same, both, faults, ways}
 use Rattle.text.proofs.Bounds.{number_within, mark_within, mark_inside}
 use Rattle.text.proofs.Derived.{mark_sound, number_sound}
 use Rattle.text.proofs.Begins.{Part, Fills, MarkThen, NumberThen, as_part, mark_moved, number_moved, mark_stops, mark_then_stops, end_stops, front, fill_mark, fill_number, here, mark_place, number_place, mark_begins, number_begins}
@@ -109,7 +109,7 @@ module _ (T : Part) (fills : Fills T) where
         let le : lo.value ≤ hi.value = grind (arith, nat_tests) in
         faults (mark_taken Signature Close s hi.end) _ x is6
         (λ f. inr (mark_begins Comma (High lo.value) s lo.end e x comma (number_begins (λ hi. (lo.value ≤ hi) × (hi ≤ 63)) (λ hi. Tail) s e hi.end hi.value x high (le, small') (mark_then_stops Close (MarkThen Dash T)) (here Tail s hi.end x w5 (mark_place Signature Close s hi.end x w5 f) fill_tail))))
-        (λ g ok7 f. absurd (no_refusal _ x f)))
+        (λ g ok7 f. cc))
         (λ t f. inl (ap place_of (sym (err_same _ x f)))))) in
         ⊎_elim
         (λ (back : place_of x ≡ c). here Low s c x w2 back fill_low)
@@ -140,7 +140,7 @@ module _ (T : Part) (fills : Fills T) where
               (number_begins (λ hi. (lo.value ≤ hi) × (hi ≤ 63)) (λ hi. Tail) s e hi.end hi.value x high'.0 (le, high'.1) (mark_then_stops Close (MarkThen Dash T))
               (mark_begins Close (MarkThen Dash T) s hi.end g x (mark_sound s hi.end Signature Close g close) rest))))),
         ))
-        (λ t f. absurd (no_refusal j _ (sym f)))
+        (λ t f. cc)
 
 join_inside : (s : List ℕ) (a b : ℕ) (g : Gap) → a ≤ length s → JoinText s a b g → (a ≤ b) × (b ≤ length s)
 join_inside s a _ _ in' none = (omega arith, in')
@@ -159,7 +159,7 @@ stray_place : (s : List ℕ) (a : ℕ) (x : Refusal) → no_gap_at s a ≡ Err x
 stray_place s a x is =
     ways (is_mark Cross s a) _ _ (Err x) is
     (λ t f. ap place_of (sym (err_same (StrayGap a) x f)))
-    (λ t f. absurd (no_refusal _ x f))
+    (λ t f. cc)
 
 module _ {R : Type 0} (reads : Reads R) (goes : GoesOn reads) (within : Within reads) (s : List ℕ) (x : Refusal) where
   abbrev Slot : Part
@@ -198,8 +198,8 @@ module _ {R : Type 0} (reads : Reads R) (goes : GoesOn reads) (within : Within r
       (λ h ok3 is3. mark_begins Dash Slot s g.end h x (mark_sound s g.end Signature Dash h ok3)
       (faults (no_gap_at s h) _ x is3
       (λ f. here Slot s h x (mark_within Signature Dash s g.end h ok3).1 (stray_place s h x f) goes.some)
-      (λ p ok4 f. absurd (no_refusal _ x f))))))))
-      (λ t f. absurd (no_refusal _ x f))
+      (λ p ok4 f. cc)))))))
+      (λ t f. cc)
 
   rest_stops : (t : List ℕ) (a : ℕ) (q : Plan R) → RestText reads t a q → is_digit (get_or t a 0) ≡ false
   rest_stops t a _ (end is) = end_stops t a is
@@ -217,7 +217,7 @@ module _ {R : Type 0} (reads : Reads R) (goes : GoesOn reads) (within : Within r
   rest_fault : (n a : ℕ) → a ≤ length s → rest_at reads n s a ≡ Err x → Begins Rest s a x
   rest_fault zero a in' is =
       ways (leb (length s) a) _ _ (Err x) is
-      (λ t f. absurd (no_refusal _ x f))
+      (λ t f. cc)
       (λ t is1. faults (mark_taken Signature Dash s a) _ x is1
       (λ f. here Rest s a x in' (mark_place Signature Dash s a x in' f) fill_rest)
       (λ b ok is2.
@@ -225,7 +225,7 @@ module _ {R : Type 0} (reads : Reads R) (goes : GoesOn reads) (within : Within r
       (mark_begins Dash After s a b x (mark_sound s a Signature Dash b ok) (here After s b x (mark_within Signature Dash s a b ok).1 (ap place_of (sym (err_same (ExtraSlot Signature b) x is2))) fill_after))))
   rest_fault (suc n) a in' is =
       ways (leb (length s) a) _ _ (Err x) is
-      (λ t f. absurd (no_refusal _ x f))
+      (λ t f. cc)
       (λ t is1. faults (mark_taken Signature Dash s a) _ x is1
       (λ f. here Rest s a x in' (mark_place Signature Dash s a x in' f) fill_rest)
       (λ b ok is2.
@@ -242,7 +242,7 @@ module _ {R : Type 0} (reads : Reads R) (goes : GoesOn reads) (within : Within r
       (λ v ok4 is4.
       faults (rest_at reads n s v.1) _ x is4
       (λ f. slot_stands b j.end v.1 j.value v.0 w join (record { begins = free; slot = ok4 }) (rest_fault n v.1 (within s j.end v.0 v.1 ok4).1 f))
-      (λ q ok5 f. absurd (no_refusal _ x f))))))))
+      (λ q ok5 f. cc)))))))
     where
       slot_refused : (b c : ℕ) (g : Gap) → b ≤ length s → JoinText s b c g → Begins Slot s c x → Begins After s b x
       slot_refused b c g in' join (on, far, (r, (set, slot))) =
@@ -268,7 +268,7 @@ module _ {R : Type 0} (reads : Reads R) (goes : GoesOn reads) (within : Within r
       let (on, far, (r, (q, rest))) = rest_fault 31 v.1 (within s 0 v.0 v.1 ok2).1 f in
       let t = take (place_of x) s ++ r in
       (r, record { sets = v.0 ∷ q.sets; gaps = q.gaps }, slots (goes.stays s t 0 v.1 v.0 (record { begins = free; slot = ok2 }) (front s r (place_of x) v.1 on far) (rest_stops t v.1 q rest)) rest))
-      (λ q ok3 f. absurd (no_refusal _ x f))))
+      (λ q ok3 f. cc)))
     where
       whole : Begins Slot s 0 x → (r : List ℕ) × (p : Plan R) × SignatureText reads (take (place_of x) s ++ r) p
       whole (on, far, (r, (set, slot))) = (r, record { sets = set ∷ []; gaps = [] }, slots slot (end refl))

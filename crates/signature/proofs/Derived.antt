@@ -21,7 +21,7 @@ use Rattle.signature.specs.Grammar.{JoinText, none, gap, RestText, end, more, Si
 pub no_gap_sound : (s : List ℕ) (a b : ℕ) → no_gap_at s a ≡ Ok b → (is_mark Cross s a ≡ false) × (a ≡ b)
 no_gap_sound s a b is =
     ways (is_mark Cross s a) _ _ (Ok b) is
-    (λ t f. absurd (let z : ◌≡◌ {A = ℕ} 0 1 = cc in omega arith))
+    (λ t f. cc)
     (λ t f. (t, ok_same _ _ f))
 
 -- a gap, and the `-` behind it
@@ -43,7 +43,7 @@ gap_sound s a j is =
     subst (GapText s a) (ok_same _ _ out) (λ h dash.
     gap (mark_sound s a Signature Cross b cross) (mark_sound s b Signature Open c opened) (number_sound s c 63 lo low).0 (mark_sound s lo.end Signature Comma e comma) high'.0
     (mark_sound s hi.end Signature Close g close) dash le high'.1))
-    (λ t f. absurd (let z : ◌≡◌ {A = ℕ} 0 1 = cc in omega arith))
+    (λ t f. cc)
 
 pub join_sound : (s : List ℕ) (a : ℕ) (j : Parsed Gap) → join_at s a ≡ Ok j → JoinText s a j.end j.value × (is_mark Cross s j.end ≡ false)
 join_sound s a j is =
@@ -79,7 +79,7 @@ module _ {R : Type 0} (reads : Reads R) (s : List ℕ) where
   rest_sound within zero a p in' is =
       ways (leb (length s) a) _ _ (Ok p) is
       (λ t out. subst (λ p. RestText reads s a p × (length p.sets ≤ 0)) (ok_same _ _ out) (end (grind (arith, nat_tests)), omega arith))
-      (λ t f. let (b, dash, out) = both (mark_taken Signature Dash s a) _ p f in absurd (let z : ◌≡◌ {A = ℕ} 0 1 = cc in omega arith))
+      (λ t f. let (b, dash, out) = both (mark_taken Signature Dash s a) _ p f in cc)
   rest_sound within (suc n) a p in' is =
       ways (leb (length s) a) _ _ (Ok p) is
       (λ t out. subst (λ p. RestText reads s a p × (length p.sets ≤ suc n)) (ok_same _ _ out) (end (grind (arith, nat_tests)), omega arith))
@@ -121,7 +121,7 @@ module _ {R : Type 0} (reads : Reads R) (s : List ℕ) where
     (λ is.
         ways (leb (length s) 4096) _ _ (Ok p) is
         (λ t f. let (few, text) = slots_sound within p f in (grind (arith, nat_tests), few, text))
-        (λ t f. absurd (let z : ◌≡◌ {A = ℕ} 0 1 = cc in omega arith))),
+        (λ t f. cc)),
     (λ (short, few, text). let t : leb (length s) 4096 ≡ true = grind (arith, nat_tests) in rw t (slots_complete p few text)),
   )
 
@@ -137,7 +137,7 @@ module _ {R : Type 0} (reads : Reads R) (s : List ℕ) where
 -- an answer that is no refusal comes of a plan
 answered : {R : Type 0} (o : Result (Plan R) Refusal) → answer o ≡ Ok tt → (p : Plan R) × (o ≡ Ok p)
 answered (Ok p) is = (p, refl)
-answered (Err e) is = absurd (let z : ◌≡◌ {A = ℕ} 0 1 = cc in omega arith)
+answered (Err e) is = cc
 
 pub answers : {R : Type 0} (reads : Reads R) (s : List ℕ) (r : Result (Unit {0}) Refusal) (sets : ℕ → R → Bool) (sig : Shape)
     → Within reads → r ≡ answer (signature_at reads s) → Left (signature_at reads s) sets sig → Answers reads s r sets sig

@@ -19,10 +19,10 @@ use Rattle.signature.specs.Outcomes.{Plan, rest_at, slots_at, Left, answer}
 -- what writing a slot answered tells what the text was read as
 pub read_as : {V : Type 0} (slot at e : ℕ) (r : Result (V × ℕ) Refusal) → slot < 32 → Ok e ≡ end_of slot at r → (v : V) × (r ≡ Ok (v, e))
 read_as slot at e (Ok v) few is = (v.0, let same : v.1 ≡ e = grind (arith, nat_tests) in ap (λ (n : ℕ). Ok (v.0, n)) same)
-read_as slot at e (Err x) few is = absurd (let z : ◌≡◌ {A = ℕ} 0 1 = grind (arith, nat_tests) in omega arith)
+read_as slot at e (Err x) few is = grind (arith, nat_tests)
 
 pub refused_as : {V : Type 0} (slot at : ℕ) (x : Refusal) (r : Result (V × ℕ) Refusal) → slot < 32 → Err x ≡ end_of slot at r → r ≡ Err x
-refused_as slot at x (Ok v) few is = absurd (let z : ◌≡◌ {A = ℕ} 0 1 = grind (arith, nat_tests) in omega arith)
+refused_as slot at x (Ok v) few is = grind (arith, nat_tests)
 refused_as slot at x (Err y) few is = grind (arith, nat_tests)
 
 pushed : {R : Type 0} (vs : List (R → Bool)) (v : R → Bool) (i : ℕ) (x : R) → get_or (vs ++ v ∷ []) i nothing x ≡ cond (eqb i (length vs)) (v x) (get_or vs i nothing x)
@@ -143,4 +143,4 @@ module _ {R : Type 0} (reads : Reads R) (s : List ℕ) where
 
 -- a refusal is handed on as it is
 pub handed : {R : Type 0} {L : Type 0} (o : Result (Plan R) Refusal) (r : Result (Unit {0}) Refusal) (x : Refusal) → o ≡ Err x → r ≡ Err x → (r ≡ answer o) × (is_ok r ≡ true → L)
-handed o r x is gave = (gave ∙ rw is refl, λ t. absurd (let z : ◌≡◌ {A = ℕ} 0 1 = grind (arith, nat_tests) in omega arith))
+handed o r x is gave = (gave ∙ rw is refl, λ t. grind (arith, nat_tests))

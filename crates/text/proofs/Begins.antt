@@ -122,7 +122,7 @@ pub mark_place : (l : Layer) (m : Mark) (s : List ℕ) (a : ℕ) (x : Refusal) �
 mark_place l m s a x in' is =
     ways (is_mark m s a) _ _ (Err x) is
     (λ t f. cc)
-    (λ t f. let is' : x ≡ NoMark l (place_in s a) = cc in ap place_of is' ∙ omega arith)
+    (λ t f. let at : place_of x ≡ place_in s a = cc in omega arith)
 
 pub number_place : (limit : ℕ) (s : List ℕ) (a : ℕ) (x : Refusal) → a ≤ length s → number_at limit s a ≡ Err x → place_of x ≡ a
 number_place limit s a x in' is =

@@ -24,7 +24,7 @@ long reads s l = let t : leb (length s) 4096 ≡ false = grind (arith, nat_tests
 -- a refusal leaves nothing
 cleared : {R : Type 0} (o : Result (Plan R) Refusal) (sets : ℕ → R → Bool) (s : Shape) → is_err (answer o) ≡ true
     → ((j : ℕ) → j < 32 → (x : R) → sets j x ≡ false) → Blank s → Left o sets s
-cleared (Ok p) sets s is empty blank = absurd (let z : ◌≡◌ {A = ℕ} 0 1 = cc in omega arith)
+cleared (Ok p) sets s is empty blank = cc
 cleared (Err x) sets s is empty blank = record { held = empty; slots = blank.0; gaps = rw blank.0 refl; past = blank.1 }
 
 -- what the reading promises of any text
