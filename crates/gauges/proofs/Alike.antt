@@ -3,7 +3,7 @@ use Rattle.std.proofs.Common.{◌≡◌, ℕ, zero, suc, ◌+◌, ◌<◌, ◌�
 use Rattle.std.proofs.lemmas.Bool.{cases_lt}
 use Rattle.text.specs.declared.mark.Mark.{Mark}
 use Rattle.text.specs.declared.mark.Mark.TheVariants.{ClassOpen, ClassClose, BarredOpen, BarredClose, Colon, Space}
-use Rattle.text.specs.declared.number.Number.{Number}
+use Rattle.text.specs.declared.parsed.Parsed.{Parsed}
 use Rattle.text.specs.declared.refusal.Layer.TheVariants.{Slot}
 use Rattle.text.specs.Refusals.{◌then◌, place_of}
 use Rattle.text.specs.Marks.{is_mark, mark_taken}
@@ -32,7 +32,7 @@ module _ (s t : List ℕ) (p : ℕ) (h : Agree s t p) where
   abbrev place : ℕ → ℕ
   place e = e
 
-  abbrev stops : Number → ℕ
+  abbrev stops : Parsed ℕ → ℕ
   stops n = n.end
 
   abbrev ends : Member → ℕ
@@ -48,7 +48,7 @@ module _ (s t : List ℕ) (p : ℕ) (h : Agree s t p) where
       (λ _. later_local p v.end ends (v.end + 1) _ _ (omega arith) (then_local p (v.end + 1) stops ends _ _ _ _ (number_local s t p h 255 (v.end + 1)) (λ w _.
       cond_local p w.end ends (leb v.value w.value) (leb v.value w.value) _ _ _ _ (λ _. refl)
       (λ _. ok_local p w.end ends _ (λ l. l))
-      (λ _. err_local p w.end ends _ _ (λ at l. absurd (not_backward Slot v.place at))))))
+      (λ _. err_local p w.end ends _ _ (λ at l. absurd (not_backward Slot a at))))))
       (λ _. ok_local p v.end ends _ (λ l. l)))
 
   -- with the same number of turns allowed

@@ -107,7 +107,7 @@ module _ (T : Part) (fills : Fills T) (stops : Stops T) where
         faults (number_at 255 s a) _ x is
         (λ f. here MemberThen s a x in' (number_place 255 s a x in' f) fill_member)
         (λ v ok is1.
-        let (number, small, place) = number_sound s a 255 v ok in
+        let (number, small) = number_sound s a 255 v ok in
         ways (is_mark Colon s v.end) _ _ (Err x) is1
         (λ t is2.
         let colon : MarkText Colon s v.end (v.end + 1) = record { stands = t; behind = refl } in
@@ -120,7 +120,7 @@ module _ (T : Part) (fills : Fills T) (stops : Stops T) where
         (λ w ok3 is3.
         ways (leb v.value w.value) _ _ (Err x) is3
         (λ u f. absurd (no_refusal _ x f))
-        (λ u f. here MemberThen s a x in' (ap place_of (sym (err_same _ x f)) ∙ place) fill_member)))
+        (λ u f. here MemberThen s a x in' (ap place_of (sym (err_same _ x f))) fill_member)))
         (λ t f. absurd (no_refusal _ x f)))
 
     member_begins : (a b : ℕ) (f : ℕ → Bool) → MemberText s a b f → Begins T s b x → Begins MemberThen s a x

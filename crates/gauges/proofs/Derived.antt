@@ -23,11 +23,11 @@ Sets = ℕ → Bool
 pub member_sound : (s : List ℕ) (a : ℕ) (m : Member) → member_at s a ≡ Ok m → MemberText s a m.end (covers m)
 member_sound s a m is =
     let (v, first, is1) = both (number_at 255 s a) _ m is in
-    let (number, small, place) = number_sound s a 255 v first in
+    let (number, small) = number_sound s a 255 v first in
     ways (is_mark Colon s v.end) _ _ (Ok m) is1
     (λ t is2.
     let (w, second, is3) = both (number_at 255 s (v.end + 1)) _ m is2 in
-    let (number', small', place') = number_sound s (v.end + 1) 255 w second in
+    let (number', small') = number_sound s (v.end + 1) 255 w second in
     ways (leb v.value w.value) _ _ (Ok m) is3
     (λ u out.
     let le : v.value ≤ w.value = grind (arith, nat_tests) in
@@ -87,7 +87,7 @@ slot_sound s a v is =
     subst (λ v. EventText s a v.1 (events_of v).0) (ok_same _ _ out) (barred (record { stands = u; behind = refl }) text))
     (λ u is2.
     let (n, number, out) = both (number_at 255 s a) _ v is2 in
-    let (text, small, place) = number_sound s a 255 n number in
+    let (text, small) = number_sound s a 255 n number in
     let same : range n.value n.value ≡ (λ c. ltb c 256 && (range n.value n.value c || false)) = λ i c. alone n.value c small i in
     subst (λ v. EventText s a v.1 (events_of v).0) (ok_same _ _ out) (subst (EventText s a n.end) same (code text small))))
   where
@@ -104,11 +104,11 @@ member_complete s a b _ free (lone {v = v} number small) =
     (record { low = v; high = v; end = b }, rw (number_complete s a 255 b v number small, free) refl, refl, λ c. refl)
 member_complete s a d _ free (pair {b = b} {c = c} {v = v} {w = w} number colon number' le small) =
     let t : leb v w ≡ true = grind (arith, nat_tests) in
-    let second : number_at 255 s (b + 1) ≡ Ok (record { value = w; place = b + 1; end = d }) = number_complete s (b + 1) 255 d w (subst (λ i. NumberText s i d w) colon.behind number') small in
+    let second : number_at 255 s (b + 1) ≡ Ok (record { value = w; end = d }) = number_complete s (b + 1) 255 d w (subst (λ i. NumberText s i d w) colon.behind number') small in
     (record { low = v; high = w; end = d }, rw (number_complete s a 255 b v number (omega arith), colon.stands, second, t) refl, refl, λ c. refl)
 
 pub number_inside : (s : List ℕ) (a b v : ℕ) → NumberText s a b v → (a < b) × (b ≤ length s)
-number_inside s a b v t = number_within v s a (record { value = v; place = a; end = b }) (number_complete s a v b v t (omega arith))
+number_inside s a b v t = number_within v s a (record { value = v; end = b }) (number_complete s a v b v t (omega arith))
 
 pub member_inside : (s : List ℕ) (a b : ℕ) (f : Sets) → MemberText s a b f → (a < b) × (a < length s)
 member_inside s a b _ (lone {v = v} number small) = let l = number_inside s a b v number in (l.0, omega arith)

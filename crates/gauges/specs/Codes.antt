@@ -17,7 +17,7 @@ member_at s at =
     number_at 255 s at then (λ a.
     cond (is_mark Colon s a.end)
     (number_at 255 s (a.end + 1) then (λ b.
-    cond (nat_le a.value b.value) (Ok (record { low = a.value; high = b.value; end = b.end })) (Err (Backward InSlot a.place))))
+    cond (nat_le a.value b.value) (Ok (record { low = a.value; high = b.value; end = b.end })) (Err (Backward InSlot at))))
     (Ok (record { low = a.value; high = a.value; end = a.end })))
 
 -- both ends of a member count

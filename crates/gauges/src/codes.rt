@@ -36,7 +36,7 @@ pub fn read_member(text: &[u8], at: usize) -> Result<Member, Refusal>
     if first.value > last.value {
         return Err(Refusal::Backward {
             layer: Layer::Slot,
-            place: first.place,
+            place: at,
         });
     }
     Ok(Member {

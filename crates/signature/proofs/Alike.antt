@@ -4,7 +4,7 @@ use Rattle.std.proofs.lemmas.List.{take-take}
 use Rattle.std.proofs.lemmas.Bool.{cases_Bool}
 use Rattle.std.proofs.lemmas.Bool.Decides.{nat_tests}
 use Rattle.text.specs.declared.mark.Mark.TheVariants.{Dash, Gap as Cross, Open, Comma, Close}
-use Rattle.text.specs.declared.number.Number.{Number}
+use Rattle.text.specs.declared.parsed.Parsed.{Parsed}
 use Rattle.text.specs.declared.refusal.Layer.TheVariants.{Signature}
 use Rattle.text.specs.declared.refusal.Refusal.{Refusal}
 use Rattle.text.specs.declared.refusal.Refusal.TheVariants.{LongText}
@@ -13,7 +13,7 @@ use Rattle.text.specs.Marks.{is_mark}
 use Rattle.text.specs.Places.{AtPlace}
 use Rattle.text.proofs.Steps.{err_same}
 use Rattle.text.proofs.Local.{Agree, agree, Local, ok_local, err_local, cond_local, then_local, same_mark, inside, mark_local, number_local, not_long, not_backward}
-use Rattle.signature.specs.declared.join.Join.{Join}
+use Rattle.runs.specs.declared.gap.Gap.{Gap}
 use Rattle.signature.specs.Slots.{Reads, Within}
 use Rattle.signature.specs.Joins.{gap_at, no_gap_at, join_at}
 use Rattle.signature.specs.Outcomes.{Plan, rest_at, slots_at, signature_at}
@@ -27,10 +27,10 @@ module _ (s t : List ℕ) (p : ℕ) (h : Agree s t p) where
   abbrev place : ℕ → ℕ
   place e = e
 
-  abbrev ends : Join → ℕ
+  abbrev ends : Parsed Gap → ℕ
   ends j = j.end
 
-  abbrev stops : Number → ℕ
+  abbrev stops : Parsed ℕ → ℕ
   stops n = n.end
 
   gap_local : (a : ℕ) → Local p a (gap_at s a) (gap_at t a) ends
@@ -42,7 +42,7 @@ module _ (s t : List ℕ) (p : ℕ) (h : Agree s t p) where
       then_local p e stops ends _ _ _ _ (number_local s t p h 63 e) (λ hi _.
       cond_local p hi.end ends (leb lo.value hi.value) (leb lo.value hi.value) _ _ _ _ (λ _. refl)
       (λ _. then_local p hi.end place ends _ _ _ _ (mark_local s t p h Signature Close hi.end) (λ e _. ok_local p e ends _ (λ l. l)))
-      (λ _. err_local p hi.end ends _ _ (λ at l. absurd (not_backward Signature lo.place at))))))))
+      (λ _. err_local p hi.end ends _ _ (λ at l. absurd (not_backward Signature c at))))))))
 
   no_gap_local : (a : ℕ) → Local p a (no_gap_at s a) (no_gap_at t a) place
   no_gap_local a =

@@ -2,6 +2,7 @@
 use Rattle.std.proofs.Common.{◌≡◌, ℕ, zero, suc, ◌<◌, ◌≤◌, Bool, true, false, leb, ◌⊎◌, List, [], ◌∷◌, ◌++◌, length, get_or, take, Ok, Err, Result, sym, refl, ap, ◌∙◌, subst, inl, inr, ⊎_elim, append-nil, arith}
 use Rattle.std.proofs.lemmas.Bool.Decides.{nat_tests}
 use Rattle.text.specs.declared.mark.Mark.TheVariants.{Dash, Gap as Cross, Open, Comma, Close}
+use Rattle.text.specs.declared.parsed.Parsed.{Parsed}
 use Rattle.text.specs.declared.refusal.Layer.TheVariants.{Signature}
 use Rattle.text.specs.declared.refusal.Refusal.{Refusal}
 use Rattle.text.specs.declared.refusal.Refusal.TheVariants.{LongText, StrayGap, ExtraSlot}
@@ -10,13 +11,12 @@ use Rattle.text.specs.Words.{is_digit}
 use Rattle.text.specs.Numbers.{number_at}
 use Rattle.text.specs.Marks.{is_mark, mark_taken}
 use Rattle.text.specs.Places.{Begins}
-use Rattle.text.proofs.Steps.{ok_same, err_same, no_refusal, both, faults, ways}
+use Rattle.text.proofs.Steps.{ok_same, err_same, both, faults, ways}
 use Rattle.text.proofs.Bounds.{number_within, mark_within, mark_inside}
 use Rattle.text.proofs.Derived.{mark_sound, number_sound}
 use Rattle.text.proofs.Begins.{Part, Fills, MarkThen, NumberThen, as_part, mark_moved, number_moved, mark_stops, mark_then_stops, end_stops, front, fill_mark, fill_number, here, mark_place, number_place, mark_begins, number_begins}
 use Rattle.runs.specs.declared.gap.Gap.{Gap}
 use Rattle.runs.specs.Gaps.{no_gap}
-use Rattle.signature.specs.declared.join.Join.{Join}
 use Rattle.signature.specs.Slots.{Reads, Within}
 use Rattle.signature.specs.Joins.{gap_at, no_gap_at, join_at}
 use Rattle.signature.specs.Outcomes.{Plan, rest_at, slots_at, signature_at}
@@ -90,7 +90,7 @@ module _ (T : Part) (fills : Fills T) where
         (faults (number_at 63 s c) _ x is2
         (λ f. here Low s c x w2 (number_place 63 s c x w2 f) fill_low)
         (λ lo ok3 is3.
-        let (low, small, place) = number_sound s c 63 lo ok3 in
+        let (low, small) = number_sound s c 63 lo ok3 in
         let w3 = (number_within 63 s c lo ok3).1 in
         let P : Part = MarkThen Comma (High lo.value) in
         let on : (place_of x ≡ c) ⊎ Begins P s lo.end x =
@@ -102,22 +102,22 @@ module _ (T : Part) (fills : Fills T) where
         faults (number_at 63 s e) _ x is4
         (λ f. inr (mark_begins Comma (High lo.value) s lo.end e x comma (here (High lo.value) s e x w4 (number_place 63 s e x w4 f) (fill_high lo.value small))))
         (λ hi ok5 is5.
-        let (high, small', place') = number_sound s e 63 hi ok5 in
+        let (high, small') = number_sound s e 63 hi ok5 in
         let w5 = (number_within 63 s e hi ok5).1 in
         ways (leb lo.value hi.value) _ _ (Err x) is5
         (λ t is6.
         let le : lo.value ≤ hi.value = grind (arith, nat_tests) in
         faults (mark_taken Signature Close s hi.end) _ x is6
         (λ f. inr (mark_begins Comma (High lo.value) s lo.end e x comma (number_begins (λ hi. (lo.value ≤ hi) × (hi ≤ 63)) (λ hi. Tail) s e hi.end hi.value x high (le, small') (mark_then_stops Close (MarkThen Dash T)) (here Tail s hi.end x w5 (mark_place Signature Close s hi.end x w5 f) fill_tail))))
-        (λ g ok7 f. absurd (no_refusal _ x f)))
-        (λ t f. inl (ap place_of (sym (err_same _ x f)) ∙ place)))) in
+        (λ g ok7 f. cc))
+        (λ t f. inl (ap place_of (sym (err_same _ x f)))))) in
         ⊎_elim
         (λ (back : place_of x ≡ c). here Low s c x w2 back fill_low)
         (λ (rest : Begins P s lo.end x). number_begins (λ lo. lo ≤ 63) (λ lo. MarkThen Comma (High lo)) s c lo.end lo.value x low small (mark_then_stops Comma (High lo.value)) rest)
         on)))))
 
     -- the gap stands, and what follows it is refused
-    gap_stands : (a : ℕ) (j : Join) → gap_at s a ≡ Ok j → (j.end ≤ length s) × (Begins (MarkThen Dash T) s j.end x → Begins Whole s a x)
+    gap_stands : (a : ℕ) (j : Parsed Gap) → gap_at s a ≡ Ok j → (j.end ≤ length s) × (Begins (MarkThen Dash T) s j.end x → Begins Whole s a x)
     gap_stands a j is =
         let (b, cross, is1) = both (mark_taken Signature Cross s a) _ j is in
         let (c, opened, is2) = both (mark_taken Signature Open s b) _ j is1 in
@@ -130,7 +130,7 @@ module _ (T : Part) (fills : Fills T) where
         let low' = number_sound s c 63 lo low in
         let high' = number_sound s e 63 hi high in
         let le : lo.value ≤ hi.value = grind (arith, nat_tests) in
-        subst (λ (j : Join). (j.end ≤ length s) × (Begins (MarkThen Dash T) s j.end x → Begins Whole s a x)) (ok_same _ _ out) (
+        subst (λ (j : Parsed Gap). (j.end ≤ length s) × (Begins (MarkThen Dash T) s j.end x → Begins Whole s a x)) (ok_same _ _ out) (
           (mark_within Signature Close s hi.end g close).1,
           λ rest.
               mark_begins Cross (MarkThen Open Low) s a b x (mark_sound s a Signature Cross b cross)
@@ -140,7 +140,7 @@ module _ (T : Part) (fills : Fills T) where
               (number_begins (λ hi. (lo.value ≤ hi) × (hi ≤ 63)) (λ hi. Tail) s e hi.end hi.value x high'.0 (le, high'.1) (mark_then_stops Close (MarkThen Dash T))
               (mark_begins Close (MarkThen Dash T) s hi.end g x (mark_sound s hi.end Signature Close g close) rest))))),
         ))
-        (λ t f. absurd (no_refusal j _ (sym f)))
+        (λ t f. cc)
 
 join_inside : (s : List ℕ) (a b : ℕ) (g : Gap) → a ≤ length s → JoinText s a b g → (a ≤ b) × (b ≤ length s)
 join_inside s a _ _ in' none = (omega arith, in')
@@ -159,7 +159,7 @@ stray_place : (s : List ℕ) (a : ℕ) (x : Refusal) → no_gap_at s a ≡ Err x
 stray_place s a x is =
     ways (is_mark Cross s a) _ _ (Err x) is
     (λ t f. ap place_of (sym (err_same (StrayGap a) x f)))
-    (λ t f. absurd (no_refusal _ x f))
+    (λ t f. cc)
 
 module _ {R : Type 0} (reads : Reads R) (goes : GoesOn reads) (within : Within reads) (s : List ℕ) (x : Refusal) where
   abbrev Slot : Part
@@ -198,8 +198,8 @@ module _ {R : Type 0} (reads : Reads R) (goes : GoesOn reads) (within : Within r
       (λ h ok3 is3. mark_begins Dash Slot s g.end h x (mark_sound s g.end Signature Dash h ok3)
       (faults (no_gap_at s h) _ x is3
       (λ f. here Slot s h x (mark_within Signature Dash s g.end h ok3).1 (stray_place s h x f) goes.some)
-      (λ p ok4 f. absurd (no_refusal _ x f))))))))
-      (λ t f. absurd (no_refusal _ x f))
+      (λ p ok4 f. cc)))))))
+      (λ t f. cc)
 
   rest_stops : (t : List ℕ) (a : ℕ) (q : Plan R) → RestText reads t a q → is_digit (get_or t a 0) ≡ false
   rest_stops t a _ (end is) = end_stops t a is
@@ -217,7 +217,7 @@ module _ {R : Type 0} (reads : Reads R) (goes : GoesOn reads) (within : Within r
   rest_fault : (n a : ℕ) → a ≤ length s → rest_at reads n s a ≡ Err x → Begins Rest s a x
   rest_fault zero a in' is =
       ways (leb (length s) a) _ _ (Err x) is
-      (λ t f. absurd (no_refusal _ x f))
+      (λ t f. cc)
       (λ t is1. faults (mark_taken Signature Dash s a) _ x is1
       (λ f. here Rest s a x in' (mark_place Signature Dash s a x in' f) fill_rest)
       (λ b ok is2.
@@ -225,7 +225,7 @@ module _ {R : Type 0} (reads : Reads R) (goes : GoesOn reads) (within : Within r
       (mark_begins Dash After s a b x (mark_sound s a Signature Dash b ok) (here After s b x (mark_within Signature Dash s a b ok).1 (ap place_of (sym (err_same (ExtraSlot Signature b) x is2))) fill_after))))
   rest_fault (suc n) a in' is =
       ways (leb (length s) a) _ _ (Err x) is
-      (λ t f. absurd (no_refusal _ x f))
+      (λ t f. cc)
       (λ t is1. faults (mark_taken Signature Dash s a) _ x is1
       (λ f. here Rest s a x in' (mark_place Signature Dash s a x in' f) fill_rest)
       (λ b ok is2.
@@ -236,13 +236,13 @@ module _ {R : Type 0} (reads : Reads R) (goes : GoesOn reads) (within : Within r
       (λ f. join_fault b w f)
       (λ j ok3 is3.
       let (join, free) = join_sound s b j ok3 in
-      let k = join_inside s b j.end j.gap w join in
+      let k = join_inside s b j.end j.value w join in
       faults (reads s j.end) _ x is3
-      (λ f. slot_refused b j.end j.gap w join (goes.begins s j.end x k.1 free f))
+      (λ f. slot_refused b j.end j.value w join (goes.begins s j.end x k.1 free f))
       (λ v ok4 is4.
       faults (rest_at reads n s v.1) _ x is4
-      (λ f. slot_stands b j.end v.1 j.gap v.0 w join (record { begins = free; slot = ok4 }) (rest_fault n v.1 (within s j.end v.0 v.1 ok4).1 f))
-      (λ q ok5 f. absurd (no_refusal _ x f))))))))
+      (λ f. slot_stands b j.end v.1 j.value v.0 w join (record { begins = free; slot = ok4 }) (rest_fault n v.1 (within s j.end v.0 v.1 ok4).1 f))
+      (λ q ok5 f. cc)))))))
     where
       slot_refused : (b c : ℕ) (g : Gap) → b ≤ length s → JoinText s b c g → Begins Slot s c x → Begins After s b x
       slot_refused b c g in' join (on, far, (r, (set, slot))) =
@@ -268,7 +268,7 @@ module _ {R : Type 0} (reads : Reads R) (goes : GoesOn reads) (within : Within r
       let (on, far, (r, (q, rest))) = rest_fault 31 v.1 (within s 0 v.0 v.1 ok2).1 f in
       let t = take (place_of x) s ++ r in
       (r, record { sets = v.0 ∷ q.sets; gaps = q.gaps }, slots (goes.stays s t 0 v.1 v.0 (record { begins = free; slot = ok2 }) (front s r (place_of x) v.1 on far) (rest_stops t v.1 q rest)) rest))
-      (λ q ok3 f. absurd (no_refusal _ x f))))
+      (λ q ok3 f. cc)))
     where
       whole : Begins Slot s 0 x → (r : List ℕ) × (p : Plan R) × SignatureText reads (take (place_of x) s ++ r) p
       whole (on, far, (r, (set, slot))) = (r, record { sets = set ∷ []; gaps = [] }, slots slot (end refl))

@@ -2,6 +2,7 @@
 use Rattle.std.proofs.Common.{◌≡◌, ℕ, zero, suc, ◌+◌, ◌≤◌, Bool, true, false, leb, List, ◌∷◌, length, Ok, Err, Result, sym, refl, ap, ◌∙◌, subst, arith}
 use Rattle.std.proofs.lemmas.Bool.Decides.{nat_tests}
 use Rattle.text.specs.declared.mark.Mark.TheVariants.{Dash, Gap as Cross, Open, Comma, Close}
+use Rattle.text.specs.declared.parsed.Parsed.{Parsed}
 use Rattle.text.specs.declared.refusal.Layer.TheVariants.{Signature}
 use Rattle.text.specs.declared.refusal.Refusal.{Refusal}
 use Rattle.text.specs.Numbers.{number_at}
@@ -12,7 +13,6 @@ use Rattle.text.proofs.Bounds.{mark_inside}
 use Rattle.text.proofs.Derived.{mark_sound, mark_complete, number_sound, number_complete}
 use Rattle.runs.specs.declared.gap.Gap.{Gap}
 use Rattle.runs.specs.declared.signature.Signature.{Signature as Shape}
-use Rattle.signature.specs.declared.join.Join.{Join}
 use Rattle.signature.specs.Slots.{Reads, Within}
 use Rattle.signature.specs.Joins.{gap_at, no_gap_at, join_at}
 use Rattle.signature.specs.Outcomes.{Plan, rest_at, slots_at, signature_at, Left, answer}
@@ -21,14 +21,14 @@ use Rattle.signature.specs.Grammar.{JoinText, none, gap, RestText, end, more, Si
 pub no_gap_sound : (s : List ℕ) (a b : ℕ) → no_gap_at s a ≡ Ok b → (is_mark Cross s a ≡ false) × (a ≡ b)
 no_gap_sound s a b is =
     ways (is_mark Cross s a) _ _ (Ok b) is
-    (λ t f. absurd (let z : ◌≡◌ {A = ℕ} 0 1 = cc in omega arith))
+    (λ t f. cc)
     (λ t f. (t, ok_same _ _ f))
 
 -- a gap, and the `-` behind it
-abbrev GapText : List ℕ → ℕ → Join → Type 0
-GapText s a j = (h : ℕ) → MarkText Dash s j.end h → JoinText s a h j.gap
+abbrev GapText : List ℕ → ℕ → Parsed Gap → Type 0
+GapText s a j = (h : ℕ) → MarkText Dash s j.end h → JoinText s a h j.value
 
-gap_sound : (s : List ℕ) (a : ℕ) (j : Join) → gap_at s a ≡ Ok j → GapText s a j
+gap_sound : (s : List ℕ) (a : ℕ) (j : Parsed Gap) → gap_at s a ≡ Ok j → GapText s a j
 gap_sound s a j is =
     let (b, cross, is1) = both (mark_taken Signature Cross s a) _ j is in
     let (c, opened, is2) = both (mark_taken Signature Open s b) _ j is1 in
@@ -43,9 +43,9 @@ gap_sound s a j is =
     subst (GapText s a) (ok_same _ _ out) (λ h dash.
     gap (mark_sound s a Signature Cross b cross) (mark_sound s b Signature Open c opened) (number_sound s c 63 lo low).0 (mark_sound s lo.end Signature Comma e comma) high'.0
     (mark_sound s hi.end Signature Close g close) dash le high'.1))
-    (λ t f. absurd (let z : ◌≡◌ {A = ℕ} 0 1 = cc in omega arith))
+    (λ t f. cc)
 
-pub join_sound : (s : List ℕ) (a : ℕ) (j : Join) → join_at s a ≡ Ok j → JoinText s a j.end j.gap × (is_mark Cross s j.end ≡ false)
+pub join_sound : (s : List ℕ) (a : ℕ) (j : Parsed Gap) → join_at s a ≡ Ok j → JoinText s a j.end j.value × (is_mark Cross s j.end ≡ false)
 join_sound s a j is =
     ways (is_mark Cross s a) _ _ (Ok j) is
     (λ t is1.
@@ -53,11 +53,11 @@ join_sound s a j is =
     let (h, dash, is3) = both (mark_taken Signature Dash s g.end) _ j is2 in
     let (p, clear, out) = both (no_gap_at s h) _ j is3 in
     let (free, same) = no_gap_sound s h p clear in
-    let here = subst (λ i. JoinText s a i g.gap × (is_mark Cross s i ≡ false)) same (gap_sound s a g gap' h (mark_sound s g.end Signature Dash h dash), free) in
-    subst (λ j. JoinText s a j.end j.gap × (is_mark Cross s j.end ≡ false)) (ok_same _ _ out) here)
-    (λ t out. subst (λ j. JoinText s a j.end j.gap × (is_mark Cross s j.end ≡ false)) (ok_same _ _ out) (none, t))
+    let here = subst (λ i. JoinText s a i g.value × (is_mark Cross s i ≡ false)) same (gap_sound s a g gap' h (mark_sound s g.end Signature Dash h dash), free) in
+    subst (λ j. JoinText s a j.end j.value × (is_mark Cross s j.end ≡ false)) (ok_same _ _ out) here)
+    (λ t out. subst (λ j. JoinText s a j.end j.value × (is_mark Cross s j.end ≡ false)) (ok_same _ _ out) (none, t))
 
-join_complete : (s : List ℕ) (a b : ℕ) (g : Gap) → JoinText s a b g → is_mark Cross s b ≡ false → join_at s a ≡ Ok (record { gap = g; end = b })
+join_complete : (s : List ℕ) (a b : ℕ) (g : Gap) → JoinText s a b g → is_mark Cross s b ≡ false → join_at s a ≡ Ok (record { value = g; end = b })
 join_complete s a _ _ none free = rw free refl
 join_complete s a h _ (gap {b = b} {c = c} {d = d} {e = e} {f = f} {g = g} {lo = lo} {hi = hi} cross opened low comma high close dash le small) free =
     let t : leb lo hi ≡ true = grind (arith, nat_tests) in
@@ -79,7 +79,7 @@ module _ {R : Type 0} (reads : Reads R) (s : List ℕ) where
   rest_sound within zero a p in' is =
       ways (leb (length s) a) _ _ (Ok p) is
       (λ t out. subst (λ p. RestText reads s a p × (length p.sets ≤ 0)) (ok_same _ _ out) (end (grind (arith, nat_tests)), omega arith))
-      (λ t f. let (b, dash, out) = both (mark_taken Signature Dash s a) _ p f in absurd (let z : ◌≡◌ {A = ℕ} 0 1 = cc in omega arith))
+      (λ t f. let (b, dash, out) = both (mark_taken Signature Dash s a) _ p f in cc)
   rest_sound within (suc n) a p in' is =
       ways (leb (length s) a) _ _ (Ok p) is
       (λ t out. subst (λ p. RestText reads s a p × (length p.sets ≤ suc n)) (ok_same _ _ out) (end (grind (arith, nat_tests)), omega arith))
@@ -121,7 +121,7 @@ module _ {R : Type 0} (reads : Reads R) (s : List ℕ) where
     (λ is.
         ways (leb (length s) 4096) _ _ (Ok p) is
         (λ t f. let (few, text) = slots_sound within p f in (grind (arith, nat_tests), few, text))
-        (λ t f. absurd (let z : ◌≡◌ {A = ℕ} 0 1 = cc in omega arith))),
+        (λ t f. cc)),
     (λ (short, few, text). let t : leb (length s) 4096 ≡ true = grind (arith, nat_tests) in rw t (slots_complete p few text)),
   )
 
@@ -137,7 +137,7 @@ module _ {R : Type 0} (reads : Reads R) (s : List ℕ) where
 -- an answer that is no refusal comes of a plan
 answered : {R : Type 0} (o : Result (Plan R) Refusal) → answer o ≡ Ok tt → (p : Plan R) × (o ≡ Ok p)
 answered (Ok p) is = (p, refl)
-answered (Err e) is = absurd (let z : ◌≡◌ {A = ℕ} 0 1 = cc in omega arith)
+answered (Err e) is = cc
 
 pub answers : {R : Type 0} (reads : Reads R) (s : List ℕ) (r : Result (Unit {0}) Refusal) (sets : ℕ → R → Bool) (sig : Shape)
     → Within reads → r ≡ answer (signature_at reads s) → Left (signature_at reads s) sets sig → Answers reads s r sets sig

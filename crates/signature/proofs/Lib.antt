@@ -1,4 +1,3 @@
-pub mod Written
 pub mod Reading
 pub mod Derived
 pub mod Alike

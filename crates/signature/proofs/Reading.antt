@@ -2,6 +2,7 @@
 use Rattle.std.proofs.Common.{◌≡◌, ℕ, zero, suc, ◌+◌, ◌-◌, ◌<◌, ◌≤◌, Bool, true, false, cond, eqb, leb, List, [], ◌∷◌, ◌++◌, length, get_or, is_ok, Ok, Err, Result, sym, refl, ap, ◌∙◌, subst, append_assoc, append-nil, arith, length-append, length-take-le}
 use Rattle.std.proofs.lemmas.Bool.Decides.{nat_tests}
 use Rattle.text.specs.declared.mark.Mark.TheVariants.{Dash}
+use Rattle.text.specs.declared.parsed.Parsed.{Parsed}
 use Rattle.text.specs.declared.refusal.Layer.TheVariants.{Signature}
 use Rattle.text.specs.declared.refusal.Refusal.{Refusal}
 use Rattle.text.specs.declared.refusal.Refusal.TheVariants.{ExtraSlot}
@@ -9,8 +10,8 @@ use Rattle.text.specs.Refusals.{◌then◌}
 use Rattle.text.specs.Marks.{mark_taken}
 use Rattle.runs.specs.declared.signature.Signature.{Signature as Shape}
 use Rattle.runs.specs.Signatures.{gaps_of, BlankFrom}
-use Rattle.signature.specs.declared.join.Join.{Join}
 use Rattle.signature.specs.Sets.{nothing, Put}
+use Rattle.runs.specs.declared.gap.Gap.{Gap}
 use Rattle.signature.specs.Slots.{Reads, end_of}
 use Rattle.signature.specs.Joins.{join_at, no_gap_at}
 use Rattle.signature.specs.Outcomes.{Plan, rest_at, slots_at, Left, answer}
@@ -18,10 +19,10 @@ use Rattle.signature.specs.Outcomes.{Plan, rest_at, slots_at, Left, answer}
 -- what writing a slot answered tells what the text was read as
 pub read_as : {V : Type 0} (slot at e : ℕ) (r : Result (V × ℕ) Refusal) → slot < 32 → Ok e ≡ end_of slot at r → (v : V) × (r ≡ Ok (v, e))
 read_as slot at e (Ok v) few is = (v.0, let same : v.1 ≡ e = grind (arith, nat_tests) in ap (λ (n : ℕ). Ok (v.0, n)) same)
-read_as slot at e (Err x) few is = absurd (let z : ◌≡◌ {A = ℕ} 0 1 = grind (arith, nat_tests) in omega arith)
+read_as slot at e (Err x) few is = grind (arith, nat_tests)
 
 pub refused_as : {V : Type 0} (slot at : ℕ) (x : Refusal) (r : Result (V × ℕ) Refusal) → slot < 32 → Err x ≡ end_of slot at r → r ≡ Err x
-refused_as slot at x (Ok v) few is = absurd (let z : ◌≡◌ {A = ℕ} 0 1 = grind (arith, nat_tests) in omega arith)
+refused_as slot at x (Ok v) few is = grind (arith, nat_tests)
 refused_as slot at x (Err y) few is = grind (arith, nat_tests)
 
 pushed : {R : Type 0} (vs : List (R → Bool)) (v : R → Bool) (i : ℕ) (x : R) → get_or (vs ++ v ∷ []) i nothing x ≡ cond (eqb i (length vs)) (v x) (get_or vs i nothing x)
@@ -101,26 +102,26 @@ module _ {R : Type 0} (reads : Reads R) (s : List ℕ) where
           h.whole ∙ rw (none, t, is) refl
 
       module _ (n : ℕ) (more : h.room ≡ suc n) where
-        opened : slots_at reads s ≡ ((join_at s next then (λ j. reads s j.end then (λ v. rest_at reads n s v.1 then (λ p. Ok (record { sets = v.0 ∷ p.sets; gaps = j.gap ∷ p.gaps }))))) then before h.plan)
+        opened : slots_at reads s ≡ ((join_at s next then (λ j. reads s j.end then (λ v. rest_at reads n s v.1 then (λ p. Ok (record { sets = v.0 ∷ p.sets; gaps = j.value ∷ p.gaps }))))) then before h.plan)
         opened = let t : leb (length s) at ≡ false = grind (arith, nat_tests) in h.whole ∙ rw (more, t, is) refl
 
         pub refused_join : (x : Refusal) → join_at s next ≡ Err x → slots_at reads s ≡ Err x
         refused_join x e = opened ∙ rw e refl
 
-        pub refused_slot : (j : Join) (x : Refusal) → join_at s next ≡ Ok j → reads s j.end ≡ Err x → slots_at reads s ≡ Err x
+        pub refused_slot : (j : Parsed Gap) (x : Refusal) → join_at s next ≡ Ok j → reads s j.end ≡ Err x → slots_at reads s ≡ Err x
         refused_slot j x e f = opened ∙ rw (e, f) refl
 
-        module _ (j : Join) (v : R → Bool) (e : ℕ) (join : join_at s next ≡ Ok j) (read : reads s j.end ≡ Ok (v, e)) where
+        module _ (j : Parsed Gap) (v : R → Bool) (e : ℕ) (join : join_at s next ≡ Ok j) (read : reads s j.end ≡ Ok (v, e)) where
           -- one slot more is in hand
           abbrev longer : Plan R
-          longer = record { sets = h.plan.sets ++ v ∷ []; gaps = h.plan.gaps ++ j.gap ∷ [] }
+          longer = record { sets = h.plan.sets ++ v ∷ []; gaps = h.plan.gaps ++ j.value ∷ [] }
 
-          moved : (r : Result (Plan R) Refusal) → ((r then (λ p. Ok (record { sets = v ∷ p.sets; gaps = j.gap ∷ p.gaps }))) then before h.plan) ≡ (r then before longer)
+          moved : (r : Result (Plan R) Refusal) → ((r then (λ p. Ok (record { sets = v ∷ p.sets; gaps = j.value ∷ p.gaps }))) then before h.plan) ≡ (r then before longer)
           moved (Ok p) = simp append_assoc
           moved (Err x) = refl
 
           pub turned : (after : ℕ → R → Bool) (sig' : Shape) → e ≤ length s → Put sig.slots v sets after
-              → sig'.slots ≡ sig.slots + 1 → gaps_of sig' ≡ gaps_of sig ++ j.gap ∷ []
+              → sig'.slots ≡ sig.slots + 1 → gaps_of sig' ≡ gaps_of sig ++ j.value ∷ []
               → (BlankFrom sig (sig.slots - 1) → BlankFrom sig' (sig'.slots - 1)) → Sofar e after sig'
           turned after sig' in' put slots gaps past = record {
             room = n;
@@ -130,7 +131,7 @@ module _ {R : Type 0} (reads : Reads R) (s : List ℕ) where
             count = simp length-append (omega (arith, h.count));
             within = in';
             whole = (opened ∙ rw (join, read) refl) ∙ moved (rest_at reads n s e);
-            gaps = gaps ∙ ap (λ gs. gs ++ j.gap ∷ []) h.gaps;
+            gaps = gaps ∙ ap (λ gs. gs ++ j.value ∷ []) h.gaps;
             past = past h.past;
             held = λ i l x.
                 let new = put i l x in
@@ -142,4 +143,4 @@ module _ {R : Type 0} (reads : Reads R) (s : List ℕ) where
 
 -- a refusal is handed on as it is
 pub handed : {R : Type 0} {L : Type 0} (o : Result (Plan R) Refusal) (r : Result (Unit {0}) Refusal) (x : Refusal) → o ≡ Err x → r ≡ Err x → (r ≡ answer o) × (is_ok r ≡ true → L)
-handed o r x is gave = (gave ∙ rw is refl, λ t. absurd (let z : ◌≡◌ {A = ℕ} 0 1 = grind (arith, nat_tests) in omega arith))
+handed o r x is gave = (gave ∙ rw is refl, λ t. grind (arith, nat_tests))

@@ -30,7 +30,7 @@ module _ {R : Type 0} (reads : Reads R) where
       join_at s next then (λ j.
       reads s j.end then (λ v.
       rest_at n s v.1 then (λ p.
-      Ok (record { sets = v.0 ∷ p.sets; gaps = j.gap ∷ p.gaps }))))))
+      Ok (record { sets = v.0 ∷ p.sets; gaps = j.value ∷ p.gaps }))))))
 
   -- the first slot, and then the rest
   abbrev pub slots_at : List ℕ → Result (Plan R) Refusal

@@ -1,6 +1,7 @@
 //! Reads the text of a signature with any written gauge.
 ghost use Rattle.std.specs.Prelude.{◌≡◌, ℕ, ◌+◌, ◌-◌, ◌<◌, ◌≤◌, true, false, List, [], ◌∷◌, ◌++◌, is_ok};
 ghost use Rattle.runs.specs.Signatures.{gaps_of, Blank, BlankFrom};
+ghost use Rattle.signature.specs.Joins.{Allowed};
 ghost use Rattle.signature.specs.Outcomes.{slots_at, signature_at, Left, answer};
 ghost use Rattle.signature.specs.Grammar.{ReadsExactly, OnePlan, Answers};
 ghost use Rattle.signature.specs.Refused.{Looks, RefusedAlike, GoesOn, BeginsSome};
@@ -12,6 +13,9 @@ use runs::signature::Signature;
 use text::mark::{Mark, take_mark};
 use text::refusal::{Layer, Refusal};
 
+/// The most slots that a signature may have.
+const MOST_SLOTS: u32 = 32;
+
 /// The most bytes that the text of a signature may have.
 const LONGEST: usize = 4096;
 
@@ -20,7 +24,7 @@ fn clear<G: Gauge>(gauge: &mut G, signature: &mut Signature)
     ensures empty { (j : ℕ) → j < 32 → (x : G.Reading) → G.Gauge.sets gauge.new j x ≡ false }
     ensures blank { Blank signature.new }
 {
-    for slot in 0..32 {
+    for slot in 0..MOST_SLOTS {
         gauge.empty_slot(slot);
     }
     *signature = Signature::new();
@@ -30,8 +34,7 @@ fn clear<G: Gauge>(gauge: &mut G, signature: &mut Signature)
 fn add_slot(signature: &mut Signature, gap: Gap)
     requires some { 0 < signature.old.slots }
     requires room { signature.old.slots < 32 }
-    requires ordered { gap.lo ≤ gap.hi }
-    requires narrow { gap.hi ≤ 63 }
+    requires allowed { Allowed gap }
     ensures slots { signature.new.slots ≡ signature.old.slots + 1 }
     ensures gaps { gaps_of signature.new ≡ gaps_of signature.old ++ (gap ∷ []) }
     ensures past { BlankFrom signature.old (signature.old.slots - 1) → BlankFrom signature.new (signature.new.slots - 1) }
@@ -57,7 +60,7 @@ fn read_slots<G: WrittenGauge>(
     while at < text.len() {
         let next = take_mark(text, at, Mark::Dash, Layer::Signature)?;
         let slot = signature.slots;
-        if slot >= 32 {
+        if slot >= MOST_SLOTS {
             return Err(Refusal::ExtraSlot {
                 layer: Layer::Signature,
                 place: next,
@@ -65,7 +68,7 @@ fn read_slots<G: WrittenGauge>(
         }
         let join = read_join(text, next)?;
         at = gauge.write_slot(slot, text, join.end)?;
-        add_slot(signature, join.gap);
+        add_slot(signature, join.value);
     }
     Ok(())
 }
@@ -80,6 +83,7 @@ fn read_slots<G: WrittenGauge>(
 /// - `begins`: over a gauge whose refused slots can go on to some slot, the bytes before any refusal's place begin some
 ///   text of the grammar: nothing before that place is at fault.
 /// - `answers`: the answer is no refusal exactly where the grammar derives a plan, and then that plan is in hand.
+// The signature is lent, and not answered: callers rely on it that a refusal leaves theirs with no slots and every gap 0 to 0.
 pub fn read_signature<G: WrittenGauge>(
     gauge: &mut G,
     signature: &mut Signature,
@@ -97,11 +101,9 @@ pub fn read_signature<G: WrittenGauge>(
     if text.len() > LONGEST {
         return Err(Refusal::LongText);
     }
-    match read_slots(gauge, signature, text) {
-        Ok(()) => Ok(()),
-        Err(refusal) => {
-            clear(gauge, signature);
-            Err(refusal)
-        }
+    let answer = read_slots(gauge, signature, text);
+    if answer.is_err() {
+        clear(gauge, signature);
     }
+    answer
 }

@@ -12,7 +12,7 @@ use Rattle.text.specs.Numbers.{value_of, number_at}
 use Rattle.text.specs.Marks.{code_of, is_mark, mark_taken}
 use Rattle.text.specs.Grammar.{MarkText, NumberText}
 use Rattle.text.specs.Places.{Begins}
-use Rattle.text.proofs.Steps.{err_same, ways}
+use Rattle.text.proofs.Steps.{ways}
 use Rattle.text.proofs.Marks.{mark_no_digit}
 use Rattle.text.proofs.Derived.{number_refused}
 
@@ -121,8 +121,8 @@ here T s a x in' is fills =
 pub mark_place : (l : Layer) (m : Mark) (s : List ℕ) (a : ℕ) (x : Refusal) → a ≤ length s → mark_taken l m s a ≡ Err x → place_of x ≡ a
 mark_place l m s a x in' is =
     ways (is_mark m s a) _ _ (Err x) is
-    (λ t f. absurd (let z : ◌≡◌ {A = ℕ} 0 1 = cc in omega arith))
-    (λ t f. ap place_of (sym (err_same (NoMark l (place_in s a)) x f)) ∙ omega arith)
+    (λ t f. cc)
+    (λ t f. let at : place_of x ≡ place_in s a = cc in omega arith)
 
 pub number_place : (limit : ℕ) (s : List ℕ) (a : ℕ) (x : Refusal) → a ≤ length s → number_at limit s a ≡ Err x → place_of x ≡ a
 number_place limit s a x in' is =

@@ -1,22 +1,22 @@
 -- Where a number, a signed number and a mark end.
-use Rattle.std.proofs.Common.{◌≡◌, ℕ, ◌+◌, ◌<◌, ◌≤◌, true, false, ◌⊎◌, List, length, drop, Ok, Err, inl, inr, arith, length-drop}
+use Rattle.std.proofs.Common.{◌≡◌, ℕ, ◌+◌, ◌<◌, ◌≤◌, true, false, ◌⊎◌, List, ℤ, length, drop, Ok, Err, inl, inr, arith, length-drop}
 use Rattle.std.proofs.lemmas.List.{get_or_past}
 use Rattle.std.proofs.lemmas.List.Sums.{prefix_len-le-length, prefix_len-drop_all}
 use Rattle.std.proofs.lemmas.Bool.{cases_lt}
 use Rattle.std.proofs.lemmas.Bool.Decides.{nat_tests}
 use Rattle.text.specs.declared.mark.Mark.{Mark}
 use Rattle.text.specs.declared.mark.Mark.TheVariants.{Dash}
-use Rattle.text.specs.declared.number.Number.{Number}
 use Rattle.text.specs.declared.refusal.Layer.{Layer}
 use Rattle.text.specs.declared.refusal.Refusal.TheVariants.{NoDigit}
-use Rattle.text.specs.declared.signed.SignedNumber.{SignedNumber}
+use Rattle.text.specs.declared.parsed.Parsed.{Parsed}
+use Rattle.text.specs.Parsed.{Ahead}
 use Rattle.text.specs.Words.{is_digit}
 use Rattle.text.specs.Numbers.{number_at}
 use Rattle.text.specs.Marks.{is_mark, mark_taken}
 use Rattle.text.specs.Signed.{signed_at}
 use Rattle.text.proofs.Marks.{mark_no_digit}
 
-pub number_within : (limit : ℕ) (s : List ℕ) (at : ℕ) (n : Number) → number_at limit s at ≡ Ok n → (at < n.end) × (n.end ≤ length s)
+pub number_within : (limit : ℕ) (s : List ℕ) (at : ℕ) (n : Parsed ℕ) → number_at limit s at ≡ Ok n → Ahead s at n
 number_within limit s at n is =
     let front = prefix_len-le-length is_digit (drop at s) in
     let rest = length-drop at s in
@@ -42,7 +42,7 @@ mark_within l m s at e is =
     let in' = mark_inside m s at t in
     (grind (arith, nat_tests), grind (arith, nat_tests))
 
-pub signed_within : (s : List ℕ) (at : ℕ) (n : SignedNumber) → signed_at s at ≡ Ok n → (at < n.end) × (n.end ≤ length s)
+pub signed_within : (s : List ℕ) (at : ℕ) (n : Parsed ℤ) → signed_at s at ≡ Ok n → Ahead s at n
 signed_within s at n is =
     let front = prefix_len-le-length is_digit (drop at s) in
     let rest = length-drop at s in

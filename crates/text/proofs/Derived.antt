@@ -1,10 +1,12 @@
 -- Marks and numbers are read just where the grammar has them.
-use Rattle.std.proofs.Common.{◌≡◌, ℕ, zero, suc, ◌+◌, ◌-◌, ◌<◌, ◌≤◌, Bool, true, false, eqb, ◌⊎◌, List, [], ◌∷◌, get_or, drop, Ok, Err, sym, refl, ap, ◌∙◌, inl, inr, ⊎_elim, one-add, arith, get_or-drop}
+use Rattle.std.proofs.Common.{◌≡◌, ℕ, ◌+◌, ◌-◌, ◌<◌, ◌≤◌, Bool, true, false, eqb, ◌⊎◌, List, length, get_or, drop, Ok, Err, sym, refl, ap, ◌∙◌, inl, inr, ⊎_elim, arith, get_or-drop}
 use Rattle.std.specs.List.{prefix_len}
-use Rattle.std.proofs.lemmas.Bool.{cases_Bool}
+use Rattle.std.proofs.lemmas.List.{get_or_past}
+use Rattle.std.proofs.lemmas.List.Sums.{prefix_len_passes, prefix_len_stops, prefix_len_is}
+use Rattle.std.proofs.lemmas.Bool.{cases_Bool, cases_lt}
 use Rattle.std.proofs.lemmas.Bool.Decides.{nat_tests}
 use Rattle.text.specs.declared.mark.Mark.{Mark}
-use Rattle.text.specs.declared.number.Number.{Number}
+use Rattle.text.specs.declared.parsed.Parsed.{Parsed}
 use Rattle.text.specs.declared.refusal.Layer.{Layer}
 use Rattle.text.specs.declared.refusal.Refusal.{Refusal}
 use Rattle.text.specs.declared.refusal.Refusal.TheVariants.{NoDigit, OutOfRange}
@@ -12,27 +14,22 @@ use Rattle.text.specs.Words.{is_digit, digits_at, place_in}
 use Rattle.text.specs.Numbers.{value_of, number_at}
 use Rattle.text.specs.Marks.{code_of, is_mark, mark_taken}
 use Rattle.text.specs.Grammar.{MarkText, NumberText}
-use Rattle.text.proofs.Digits.{front_passes}
 use Rattle.text.proofs.Marks.{mark_no_digit}
 
 -- what ends the longest front that passes does not pass
 leading_stops : (p : ℕ → Bool) (xs : List ℕ) → p 0 ≡ false → p (get_or xs (prefix_len p xs) 0) ≡ false
-leading_stops p [] z = z
-leading_stops p (x ∷ xs) z =
-    let on = leading_stops p xs z in
+leading_stops p xs z =
     ⊎_elim
-    (λ (t : p x ≡ true). rw (t, one-add) on)
-    (λ (f : p x ≡ false). rw f f)
-    (cases_Bool (p x))
+    (λ (l : prefix_len p xs < length xs). prefix_len_stops p xs 0 l)
+    (λ (l : length xs ≤ prefix_len p xs). ap p (get_or_past xs (prefix_len p xs) 0 l) ∙ z)
+    (cases_lt (prefix_len p xs) (length xs))
 
 -- a front that passes and what does not behind it is the longest
 leading_is : (p : ℕ → Bool) (xs : List ℕ) (n : ℕ) → p 0 ≡ false → ((k : ℕ) → k < n → p (get_or xs k 0) ≡ true) → p (get_or xs n 0) ≡ false → prefix_len p xs ≡ n
-leading_is p [] zero z all stop = refl
-leading_is p [] (suc n) z all stop = absurd (let z : ◌≡◌ {A = ℕ} 0 1 = grind (arith, all 0 (omega arith)) in omega arith)
-leading_is p (x ∷ xs) zero z all stop = rw stop refl
-leading_is p (x ∷ xs) (suc n) z all stop =
-    let on = leading_is p xs n z (λ k l. all (suc k) (omega arith)) stop in
-    rw (all 0 (omega arith), on, one-add) refl
+leading_is p xs n z all stop =
+    let past = get_or_past xs (length xs) 0 (omega arith) in
+    let all' = all (length xs) in
+    prefix_len_is p xs n 0 (grind arith) all (λ l. stop)
 
 module _ (s : List ℕ) (a : ℕ) where
   -- a mark is taken just where it stands
@@ -42,24 +39,23 @@ module _ (s : List ℕ) (a : ℕ) where
   pub mark_complete : (l : Layer) (m : Mark) (b : ℕ) → MarkText m s a b → mark_taken l m s a ≡ Ok b
   mark_complete l m b t = rw t.stands (ap Ok (sym t.behind))
 
-  pub number_sound : (limit : ℕ) (n : Number) → number_at limit s a ≡ Ok n → NumberText s a n.end n.value × (n.value ≤ limit) × (n.place ≡ a)
+  pub number_sound : (limit : ℕ) (n : Parsed ℕ) → number_at limit s a ≡ Ok n → NumberText s a n.end n.value × (n.value ≤ limit)
   number_sound limit n is =
       let k = prefix_len is_digit (drop a s) in
-      let told : (n.end ≡ a + prefix_len is_digit (drop a s)) × (n.place ≡ a) × (n.value ≡ value_of (digits_at s a)) × (n.value ≤ limit) × (0 < prefix_len is_digit (drop a s)) = grind (arith, nat_tests) in
+      let told : (n.end ≡ a + prefix_len is_digit (drop a s)) × (n.value ≡ value_of (digits_at s a)) × (n.value ≤ limit) × (0 < prefix_len is_digit (drop a s)) = grind (arith, nat_tests) in
       let far : n.end - a ≡ prefix_len is_digit (drop a s) = omega arith in (
         record {
           some = omega arith;
           digits = λ j l m.
               let at : a + (j - a) ≡ j = omega arith in
-              ap (λ i. is_digit (get_or s i 0)) (sym at) ∙ ap is_digit (sym (get_or-drop a s (j - a) 0)) ∙ front_passes is_digit (drop a s) (j - a) (omega arith);
+              ap (λ i. is_digit (get_or s i 0)) (sym at) ∙ ap is_digit (sym (get_or-drop a s (j - a) 0)) ∙ prefix_len_passes is_digit (drop a s) (j - a) 0 (omega arith);
           stops = ap (λ i. is_digit (get_or s i 0)) told.0 ∙ ap is_digit (sym (get_or-drop a s k 0)) ∙ leading_stops is_digit (drop a s) refl;
-          value = rw far (sym told.2);
+          value = rw far (sym told.1);
         },
-        told.3,
-        told.1,
+        told.2,
       )
 
-  pub number_complete : (limit b v : ℕ) → NumberText s a b v → v ≤ limit → number_at limit s a ≡ Ok (record { value = v; place = a; end = b })
+  pub number_complete : (limit b v : ℕ) → NumberText s a b v → v ≤ limit → number_at limit s a ≡ Ok (record { value = v; end = b })
   number_complete limit b v t few =
       let some = t.some in
       let on : a + (b - a) ≡ b = omega arith in
@@ -82,7 +78,7 @@ module _ (s : List ℕ) (a : ℕ) where
       (λ (t : is_digit (get_or s a 0) ≡ true). inr (
       let here : a + 0 ≡ a = omega arith in
       let first : is_digit (get_or (drop a s) 0 0) ≡ true = ap is_digit (get_or-drop a s 0 0) ∙ ap (λ i. is_digit (get_or s i 0)) here ∙ t in
-      let some : prefix_len is_digit (drop a s) ≡ 0 → ⊥ = λ z. let stop = leading_stops is_digit (drop a s) refl in let w : ◌≡◌ {A = ℕ} 0 1 = grind (arith, nat_tests) in omega arith in
+      let some : prefix_len is_digit (drop a s) ≡ 0 → ⊥ = λ z. let stop = leading_stops is_digit (drop a s) refl in grind (arith, nat_tests) in
       grind (arith, nat_tests)))
       (λ (f : is_digit (get_or s a 0) ≡ false). inl (f, let is' = number_none limit f in cc))
       (cases_Bool (is_digit (get_or s a 0)))
@@ -92,7 +88,7 @@ pub digit_no_mark : (m : Mark) (s : List ℕ) (a : ℕ) → is_digit (get_or s a
 digit_no_mark m s a d = let none = (mark_no_digit m).0 in go (cases_Bool (is_mark m s a))
   where
     go : (is_mark m s a ≡ true) ⊎ (is_mark m s a ≡ false) → is_mark m s a ≡ false
-    go (inl t) = absurd (let same : get_or s a 0 ≡ code_of m = grind (arith, nat_tests) in let z : ◌≡◌ {A = ℕ} 0 1 = grind (arith, ap is_digit same) in omega arith)
+    go (inl t) = absurd (let same : get_or s a 0 ≡ code_of m = grind (arith, nat_tests) in grind (arith, ap is_digit same))
     go (inr f) = f
 
 -- where one mark stands, no other does

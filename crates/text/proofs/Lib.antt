@@ -1,8 +1,6 @@
-pub mod Digits
 pub mod Marks
-pub mod Words
 pub mod Bounds
 pub mod Steps
 pub mod Derived
-pub mod Local
 pub mod Begins
+pub mod Local

@@ -1,38 +1,30 @@
 -- A reading looks at no byte past where it ends, or past where it is refused.
-use Rattle.std.proofs.Common.{◌≡◌, ℕ, ◌+◌, ◌-◌, ◌<◌, ◌≤◌, min, Bool, true, false, cond, ◌||◌, eqb, ◌⊎◌, List, length, get_or, take, drop, Ok, Err, Result, sym, refl, ap, ◌∙◌, subst, inl, inr, ⊎_elim, arith, length-take, take_all, get_or-take}
-use Rattle.std.proofs.lemmas.List.{drop-take, take-take}
+use Rattle.std.proofs.Common.{◌≡◌, ℕ, ◌+◌, ◌<◌, ◌≤◌, min, Bool, true, false, cond, eqb, ◌⊎◌, List, length, get_or, take, Ok, Err, Result, sym, refl, ap, ◌∙◌, subst, inl, inr, ⊎_elim, arith, length-take, take_all}
 use Rattle.std.proofs.lemmas.Bool.{cases_lt}
 use Rattle.text.specs.declared.mark.Mark.{Mark}
 use Rattle.text.specs.declared.refusal.Layer.{Layer}
 use Rattle.text.specs.declared.refusal.Refusal.{Refusal}
 use Rattle.text.specs.declared.refusal.Refusal.TheVariants.{LongText, NoDigit, NoMark, OutOfRange, Backward}
-use Rattle.text.specs.Refusals.{◌then◌, number_of, place_of}
+use Rattle.text.specs.Refusals.{◌then◌, place_of}
 use Rattle.text.specs.Words.{is_digit, place_in}
-use Rattle.text.specs.Numbers.{value_of, number_at}
+use Rattle.text.specs.Numbers.{number_at}
 use Rattle.text.specs.Marks.{code_of, is_mark, mark_taken}
 use Rattle.text.specs.Grammar.{NumberText}
-use Rattle.text.specs.Places.{AtPlace, digit, mark, slot, gap}
+use Rattle.text.specs.Places.{AtPlace}
 use Rattle.text.proofs.Steps.{err_same, both, faults}
+use Rattle.text.proofs.Begins.{byte_moved, number_moved}
 use Rattle.text.proofs.Derived.{number_sound, number_complete, number_none, number_refused}
 
-abbrev counted : ℕ → Bool
-counted n = eqb n 2 || (eqb n 4 || (eqb n 6 || eqb n 7))
-
-at_place : (x : Refusal) → AtPlace x → counted (number_of x) ≡ true
-at_place _ digit = refl
-at_place _ mark = refl
-at_place _ slot = refl
-at_place _ gap = refl
-
 -- these look further
+
 pub not_range : (p : ℕ) → AtPlace (OutOfRange p) → ⊥
-not_range p h = let t = at_place (OutOfRange p) h in let z : ◌≡◌ {A = ℕ} 0 1 = cc in omega arith
+not_range p h = elim h [ ]
 
 pub not_backward : (l : Layer) (p : ℕ) → AtPlace (Backward l p) → ⊥
-not_backward l p h = let t = at_place (Backward l p) h in let z : ◌≡◌ {A = ℕ} 0 1 = cc in omega arith
+not_backward l p h = elim h [ ]
 
 pub not_long : AtPlace LongText → ⊥
-not_long h = let t = at_place LongText h in let z : ◌≡◌ {A = ℕ} 0 1 = cc in omega arith
+not_long h = elim h [ ]
 
 -- two texts that have the same bytes up to place p, and that one
 pub record Agree (s t : List ℕ) (p : ℕ) : Type 0 where
@@ -58,13 +50,13 @@ pub record Local {A : Type 0} (p a : ℕ) (r u : Result A Refusal) (end : A → 
 module _ {A : Type 0} (p a : ℕ) (end : A → ℕ) where
   pub ok_local : (v : A) → (end v ≤ p → a ≤ p) → Local p a (Ok v) (Ok v) end
   ok_local v on = record {
-    ok = λ w is l. (on (subst (λ z. end z ≤ p) (sym (let same : v ≡ w = cc in same)) l), is);
-    err = λ x is. absurd (let z : ◌≡◌ {A = ℕ} 0 1 = cc in omega arith);
+    ok = λ w is l. (on (subst (λ z. end z ≤ p) (sym cc) l), is);
+    err = λ x is. cc;
   }
 
   pub err_local : (x y : Refusal) → (AtPlace x → place_of x ≤ p → (a ≤ p) × (x ≡ y)) → Local p a (Err x) (Err y) end
   err_local x y on = record {
-    ok = λ w is. absurd (let z : ◌≡◌ {A = ℕ} 0 1 = cc in omega arith);
+    ok = λ w is. cc;
     err = λ w is at l.
         let same = err_same x w is in
         let told = on (subst AtPlace (sym same) at) (subst (λ z. place_of z ≤ p) (sym same) l) in
@@ -107,7 +99,7 @@ then_local {A} {B} p a end last r u f g first next = record {
 
 module _ (s t : List ℕ) (p : ℕ) (h : Agree s t p) where
   same_byte : (k : ℕ) → k ≤ p → get_or s k 0 ≡ get_or t k 0
-  same_byte k l = sym (get_or-take (p + 1) s k 0 (omega arith)) ∙ ap (λ z. get_or z k 0) (sym h.front) ∙ get_or-take (p + 1) t k 0 (omega arith)
+  same_byte k l = sym (byte_moved s t (p + 1) h.front k (omega arith))
 
   pub same_mark : (m : Mark) (a : ℕ) → a ≤ p → is_mark m s a ≡ is_mark m t a
   same_mark m a l = ap (λ b. eqb b (code_of m)) (same_byte a l)
@@ -122,28 +114,15 @@ module _ (s t : List ℕ) (p : ℕ) (h : Agree s t p) where
       (λ _. ok_local p a (λ e. e) (a + 1) (λ l. omega arith))
       (λ _. err_local p a (λ e. e) _ _ (λ at far. let (le, one, two) = inside a far in (le, ap (NoMark l) (one ∙ sym two))))
 
-  same_part : (a b : ℕ) → a ≤ b → b ≤ p → take (b - a) (drop a s) ≡ take (b - a) (drop a t)
-  same_part a b le l =
-      let whole : a + (b - a) ≡ b = omega arith in
-      let fronts : take b s ≡ take b t = sym (take-take b (p + 1) s (omega arith)) ∙ ap (take b) (sym h.front) ∙ take-take b (p + 1) t (omega arith) in
-      sym (drop-take a (b - a) s) ∙ ap (λ n. drop a (take n s)) whole ∙ ap (drop a) fronts ∙ ap (λ n. drop a (take n t)) (sym whole) ∙ drop-take a (b - a) t
-
   same_number : (a b v : ℕ) → b ≤ p → NumberText s a b v → NumberText t a b v
-  same_number a b v l n =
-      let some = n.some in
-      record {
-        some = some;
-        digits = λ k from to. ap is_digit (sym (same_byte k (omega arith))) ∙ n.digits k from to;
-        stops = ap is_digit (sym (same_byte b l)) ∙ n.stops;
-        value = ap value_of (sym (same_part a b (omega arith) l)) ∙ n.value;
-      }
+  same_number a b v l n = number_moved s t (p + 1) h.front a b v (omega arith) (ap is_digit (sym (same_byte b l)) ∙ n.stops) n
 
   pub number_local : (limit a : ℕ) → Local p a (number_at limit s a) (number_at limit t a) (λ n. n.end)
   number_local limit a = record {
     ok = λ n is l.
-        let (text, few, place) = number_sound s a limit n is in
+        let (text, few) = number_sound s a limit n is in
         let some = text.some in
-        (omega arith, number_complete t a limit n.end n.value (same_number a n.end n.value l text) few ∙ ap (λ k. Ok (record { value = n.value; place = k; end = n.end })) (sym place));
+        (omega arith, number_complete t a limit n.end n.value (same_number a n.end n.value l text) few);
     err = λ x is at l. go x is at l;
   }
     where

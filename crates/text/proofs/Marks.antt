@@ -6,7 +6,7 @@ use Rattle.text.specs.declared.mark.Mark.TheVariants.{Dash, Gap, Open, Comma, Cl
 use Rattle.text.specs.Words.{is_digit}
 use Rattle.text.specs.Marks.{code_of, byte_mark}
 
-pub mark_of_code : (m : Mark) → byte_mark (code_of m) ≡ Some m
+mark_of_code : (m : Mark) → byte_mark (code_of m) ≡ Some m
 mark_of_code Dash = refl
 mark_of_code Gap = refl
 mark_of_code Open = refl
@@ -23,7 +23,7 @@ mark_of_code At = refl
 mark_of_code And = refl
 mark_of_code Bang = refl
 
-pub code_of_mark : (b : ℕ) (m : Mark) → byte_mark b ≡ Some m → b ≡ code_of m
+code_of_mark : (b : ℕ) (m : Mark) → byte_mark b ≡ Some m → b ≡ code_of m
 code_of_mark b m is = grind (arith, nat_tests)
 
 -- a mark is no digit, and not the 0 that stands for no byte

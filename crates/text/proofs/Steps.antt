@@ -1,5 +1,5 @@
 -- Taking apart what was read: one reading after another, and one of two ways.
-use Rattle.std.proofs.Common.{◌≡◌, ℕ, Bool, true, false, cond, Ok, Err, Result, refl, ap, arith}
+use Rattle.std.proofs.Common.{◌≡◌, Bool, true, false, cond, Ok, Err, Result, refl, ap}
 use Rattle.text.specs.declared.refusal.Refusal.{Refusal}
 use Rattle.text.specs.Refusals.{◌then◌}
 
@@ -10,12 +10,12 @@ pub err_same : {A : Type 0} (x y : Refusal) → ◌≡◌ {A = Result A Refusal}
 err_same x y is = cc
 
 pub no_refusal : {A : Type 0} (a : A) (x : Refusal) → ◌≡◌ {A = Result A Refusal} (Ok a) (Err x) → ⊥
-no_refusal a x is = let z : ◌≡◌ {A = ℕ} 0 1 = cc in omega arith
+no_refusal a x is = cc
 
 -- what came of one reading after another came of each
 pub both : {A B : Type 0} (r : Result A Refusal) (f : A → Result B Refusal) (b : B) → (r then f) ≡ Ok b → (a : A) × (r ≡ Ok a) × (f a ≡ Ok b)
 both (Ok a) f b is = (a, refl, is)
-both (Err e) f b is = absurd (let z : ◌≡◌ {A = ℕ} 0 1 = cc in omega arith)
+both (Err e) f b is = cc
 
 -- one reading after another is refused at the first, or behind it
 pub faults : {A B P : Type 0} (r : Result A Refusal) (f : A → Result B Refusal) (x : Refusal) → (r then f) ≡ Err x → (r ≡ Err x → P) → ((a : A) → r ≡ Ok a → f a ≡ Err x → P) → P

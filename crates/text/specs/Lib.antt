@@ -1,5 +1,6 @@
 pub mod Refusals
 pub mod Words
+pub mod Parsed
 pub mod Numbers
 pub mod Marks
 pub mod Grammar

@@ -1,6 +1,8 @@
 -- The marks, and how one is read.
 use Rattle.std.specs.Prelude.{ℕ, ◌+◌, Bool, cond, List, [], ◌∷◌, Some, None, Ok, Err, Option, Result, ◌==◌, slice_index}
+use Rattle.std.specs.Option.{ok_or}
 use Rattle.text.specs.declared.mark.Mark.{Mark}
+use Rattle.text.specs.declared.mark.NotMark.{NotMark}
 use Rattle.text.specs.declared.mark.Mark.TheVariants.{Dash, Gap, Open, Comma, Close, ClassOpen, ClassClose, BarredOpen, BarredClose, Colon, Space, Tilde, At, And, Bang}
 use Rattle.text.specs.declared.refusal.Layer.{Layer}
 use Rattle.text.specs.declared.refusal.Refusal.{Refusal}
@@ -32,6 +34,10 @@ byte_mark b =
     (cond (b == 91) (Some ClassOpen) (cond (b == 93) (Some ClassClose) (cond (b == 123) (Some BarredOpen) (cond (b == 125) (Some BarredClose)
     (cond (b == 58) (Some Colon) (cond (b == 32) (Some Space) (cond (b == 126) (Some Tilde) (cond (b == 64) (Some At)
     (cond (b == 38) (Some And) (cond (b == 33) (Some Bang) None))))))))))))))
+
+-- the same, of a byte that may be none
+abbrev pub mark_from : ℕ → Result Mark NotMark
+mark_from b = ok_or (byte_mark b) (record { 0 = b })
 
 -- the mark that a word of one byte is
 abbrev pub mark_in : List ℕ → Option Mark

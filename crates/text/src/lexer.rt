@@ -1,5 +1,5 @@
 //! The words of a text: each is a part of that text, kept with its byte place.
-ghost use Rattle.std.specs.Prelude.{◌≡◌, ℕ, ◌+◌, ◌≤◌, length, drop};
+ghost use Rattle.std.specs.Prelude.{◌≡◌, ◌≤◌, length};
 ghost use Rattle.std.specs.List.{prefix_len};
 ghost use Rattle.text.specs.Words.{is_digit, seen, word_at};
 
@@ -13,19 +13,15 @@ pub enum Word<'a> {
     End { place: usize },
 }
 
-// How many digits stand from `at` on.
-fn count_digits(text: &[u8], at: usize) -> usize
-    requires { at ≤ length text.now }
-    ensures within { at + result ≤ length text.now }
-    ensures value { result ≡ prefix_len is_digit (drop at text.now) }
+// How many digits the text begins with.
+fn count_digits(text: &[u8]) -> usize
+    ensures within { result ≤ length text.now }
+    ensures value { result ≡ prefix_len is_digit text.now }
 {
-    let mut end = at;
-    while end < text.len() && text[end].is_ascii_digit() {
-        end += 1;
-    }
-    end - at
+    text.iter().take_while(|byte| byte.is_ascii_digit()).count()
 }
 
+// No cursor in place of text and place: a slot's writer is lent any text and place, and after a refusal a cursor's place would need a promise too.
 /// The word that begins at a place; a place past the text counts as its end.
 pub fn next_word<'a>(text: &'a [u8], at: usize) -> Word<'a>
     ensures { seen result ≡ word_at text.now at }
@@ -33,7 +29,7 @@ pub fn next_word<'a>(text: &'a [u8], at: usize) -> Word<'a>
     if at >= text.len() {
         return Word::End { place: text.len() };
     }
-    let count = count_digits(text, at);
+    let count = count_digits(&text[at..]);
     if count == 0 {
         Word::Mark {
             text: &text[at..at + 1],

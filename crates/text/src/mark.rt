@@ -1,6 +1,6 @@
 //! Marks: the bytes of a text that are no digits and mean something.
 ghost use Rattle.std.specs.Prelude.{◌≡◌, ℕ, ◌+◌, ◌<◌, ◌≤◌, true, length, IfOk};
-ghost use Rattle.text.specs.Marks.{byte_mark, mark_in, is_mark, mark_taken};
+ghost use Rattle.text.specs.Marks.{mark_from, mark_in, is_mark, mark_taken};
 
 use crate::lexer::{Word, next_word};
 use crate::refusal::{Layer, Refusal};
@@ -39,27 +39,34 @@ pub enum Mark {
     Bang,
 }
 
-// The mark that a byte is, if it is one.
-fn mark_of(byte: u8) -> Option<Mark>
-    ensures { result ≡ byte_mark byte }
-{
-    match char::from(byte) {
-        '-' => Some(Mark::Dash),
-        'x' => Some(Mark::Gap),
-        '(' => Some(Mark::Open),
-        ',' => Some(Mark::Comma),
-        ')' => Some(Mark::Close),
-        '[' => Some(Mark::ClassOpen),
-        ']' => Some(Mark::ClassClose),
-        '{' => Some(Mark::BarredOpen),
-        '}' => Some(Mark::BarredClose),
-        ':' => Some(Mark::Colon),
-        ' ' => Some(Mark::Space),
-        '~' => Some(Mark::Tilde),
-        '@' => Some(Mark::At),
-        '&' => Some(Mark::And),
-        '!' => Some(Mark::Bang),
-        _ => None,
+/// A byte that is no mark.
+#[derive(Clone, Copy, PartialEq, Eq, Debug)]
+pub struct NotMark(pub u8);
+
+impl TryFrom<u8> for Mark {
+    type Error = NotMark;
+
+    ghost try_from_gives = { λ byte result. result ≡ mark_from byte };
+
+    fn try_from(byte: u8) -> Result<Self, NotMark> {
+        match char::from(byte) {
+            '-' => Ok(Mark::Dash),
+            'x' => Ok(Mark::Gap),
+            '(' => Ok(Mark::Open),
+            ',' => Ok(Mark::Comma),
+            ')' => Ok(Mark::Close),
+            '[' => Ok(Mark::ClassOpen),
+            ']' => Ok(Mark::ClassClose),
+            '{' => Ok(Mark::BarredOpen),
+            '}' => Ok(Mark::BarredClose),
+            ':' => Ok(Mark::Colon),
+            ' ' => Ok(Mark::Space),
+            '~' => Ok(Mark::Tilde),
+            '@' => Ok(Mark::At),
+            '&' => Ok(Mark::And),
+            '!' => Ok(Mark::Bang),
+            _ => Err(NotMark(byte)),
+        }
     }
 }
 
@@ -68,7 +75,7 @@ pub fn read_mark(word: &[u8]) -> Option<Mark>
     ensures { result ≡ mark_in word.now }
 {
     match word {
-        [byte] => mark_of(*byte),
+        [byte] => Mark::try_from(*byte).ok(),
         _ => None,
     }
 }
@@ -80,8 +87,7 @@ pub fn marked(text: &[u8], at: usize, wanted: Mark) -> bool
 {
     match next_word(text, at) {
         Word::Mark { text: word, .. } => read_mark(word) == Some(wanted),
-        Word::Digits { .. } => false,
-        Word::End { .. } => false,
+        _ => false,
     }
 }
 

@@ -2,6 +2,7 @@
 ghost use Rattle.std.specs.Prelude.{◌≡◌, Some};
 ghost use Rattle.text.specs.Refusals.{number_of, layer_of, place_of, layer_name, refusal_line};
 
+use std::error::Error;
 use std::fmt;
 
 /// The part of the software that refuses.
@@ -18,14 +19,13 @@ impl fmt::Display for Layer {
     ghost output = { λ l. Some (layer_name l) };
 
     fn fmt<W: fmt::Write>(&self, f: &mut fmt::Formatter<W>) -> fmt::Result {
-        let name = match self {
+        f.write_str(match self {
             Layer::Number => "number",
             Layer::Slot => "slot",
             Layer::Signature => "signature",
             Layer::Record => "record",
             Layer::File => "file",
-        };
-        write!(f, "{name}")
+        })
     }
 }
 
@@ -110,15 +110,20 @@ impl Refusal {
         match *self {
             Refusal::LongText | Refusal::StrayGap { .. } => Layer::Signature,
             Refusal::NoDigit { .. } | Refusal::OutOfRange { .. } => Layer::Number,
-            Refusal::NoMark { layer, .. } => layer,
-            Refusal::Backward { layer, .. } => layer,
-            Refusal::ExtraSlot { layer, .. } => layer,
-            Refusal::Buffers | Refusal::NoSlots | Refusal::FarReach => Layer::Record,
-            Refusal::Full { .. } | Refusal::NoPlace { .. } | Refusal::Settled { .. } =>
-                Layer::Record,
-            Refusal::LineAbove { .. } | Refusal::LineBack { .. } => Layer::Record,
-            Refusal::NoHit { .. } | Refusal::ShortList { .. } => Layer::Record,
-            Refusal::OtherBuffers { .. } => Layer::Record,
+            Refusal::NoMark { layer, .. }
+            | Refusal::Backward { layer, .. }
+            | Refusal::ExtraSlot { layer, .. } => layer,
+            Refusal::Buffers
+            | Refusal::NoSlots
+            | Refusal::FarReach
+            | Refusal::Full { .. }
+            | Refusal::NoPlace { .. }
+            | Refusal::Settled { .. }
+            | Refusal::LineAbove { .. }
+            | Refusal::LineBack { .. }
+            | Refusal::NoHit { .. }
+            | Refusal::ShortList { .. }
+            | Refusal::OtherBuffers { .. } => Layer::Record,
             Refusal::FileSize { .. } | Refusal::FileParts { .. } => Layer::File,
         }
     }
@@ -129,23 +134,22 @@ impl Refusal {
     {
         match *self {
             Refusal::LongText => 4096,
-            Refusal::NoDigit { place } => place,
-            Refusal::OutOfRange { place } => place,
-            Refusal::NoMark { place, .. } => place,
-            Refusal::Backward { place, .. } => place,
-            Refusal::ExtraSlot { place, .. } => place,
-            Refusal::StrayGap { place } => place,
             Refusal::Buffers | Refusal::NoSlots | Refusal::FarReach => 0,
-            Refusal::Full { place } => place,
-            Refusal::NoPlace { place } => place,
-            Refusal::Settled { place } => place,
-            Refusal::LineAbove { place } => place,
-            Refusal::LineBack { place } => place,
-            Refusal::NoHit { place } => place,
-            Refusal::ShortList { place } => place,
-            Refusal::OtherBuffers { place } => place,
-            Refusal::FileSize { bytes } => bytes,
-            Refusal::FileParts { bytes } => bytes,
+            Refusal::NoDigit { place }
+            | Refusal::OutOfRange { place }
+            | Refusal::NoMark { place, .. }
+            | Refusal::Backward { place, .. }
+            | Refusal::ExtraSlot { place, .. }
+            | Refusal::StrayGap { place }
+            | Refusal::Full { place }
+            | Refusal::NoPlace { place }
+            | Refusal::Settled { place }
+            | Refusal::LineAbove { place }
+            | Refusal::LineBack { place }
+            | Refusal::NoHit { place }
+            | Refusal::ShortList { place }
+            | Refusal::OtherBuffers { place } => place,
+            Refusal::FileSize { bytes } | Refusal::FileParts { bytes } => bytes,
         }
     }
 }
@@ -160,3 +164,5 @@ impl fmt::Display for Refusal {
         write!(f, "refused {number} {layer} {place}")
     }
 }
+
+impl Error for Refusal {}

@@ -20,9 +20,9 @@ returns-in_err-next g c =
     let out = handed _ _ _ (refused_dash _ _ c.loop-at.invariant _ c.loop-at-test.true (sym c.in_err-next.ensures.value)) (rw (p.1, p.2) refl) in
     record { value = out.0; left = out.1 }
 
-pub returns-then-slot-ge32 : goal.returns-then-slot-ge32
-returns-then-slot-ge32 g c =
-    let out = handed _ _ _ (refused_full _ _ c.loop-at.invariant c.in_ok-next.next c.loop-at-test.true (sym c.in_ok-next.ensures.value) c.if-slot-ge32.true) refl in
+pub returns-then-slot-ge-MOST_SLOTS : goal.returns-then-slot-ge-MOST_SLOTS
+returns-then-slot-ge-MOST_SLOTS g c =
+    let out = handed _ _ _ (refused_full _ _ c.loop-at.invariant c.in_ok-next.next c.loop-at-test.true (sym c.in_ok-next.ensures.value) c.if-slot-ge-MOST_SLOTS.true) refl in
     record { value = out.0; left = out.1 }
 
 -- the slots that may still follow the next one
@@ -32,7 +32,7 @@ more slots room all few = (room - 1, omega arith)
 pub returns-in_err-join : goal.returns-in_err-join
 returns-in_err-join g c =
     let h = c.loop-at.invariant in
-    let n = more c.loop-at.signature.slots h.room h.slots c.if-slot-ge32.false in
+    let n = more c.loop-at.signature.slots h.room h.slots c.if-slot-ge-MOST_SLOTS.false in
     let p = err_from_is_err_and c.from_residual-in_err-join.result c.from_residual-in_err-join.ensures.1 in
     let out = handed _ _ _ (refused_join _ _ h c.in_ok-next.next c.loop-at-test.true (sym c.in_ok-next.ensures.value) n.0 n.1 _ (sym c.in_err-join.ensures.value)) (rw (p.1, p.2) refl) in
     record { value = out.0; left = out.1 }
@@ -40,31 +40,30 @@ returns-in_err-join g c =
 pub returns-in_err-at-2 : goal.returns-in_err-at-2
 returns-in_err-at-2 g c =
     let h = c.loop-at.invariant in
-    let n = more c.loop-at.signature.slots h.room h.slots c.if-slot-ge32.false in
+    let n = more c.loop-at.signature.slots h.room h.slots c.if-slot-ge-MOST_SLOTS.false in
     let p = err_from_is_err_and c.from_residual-in_err-at-2.result c.from_residual-in_err-at-2.ensures.1 in
-    let x = refused_as c.loop-at.signature.slots c.in_ok-join.join.end _ _ c.if-slot-ge32.false c.in_err-at-2.ensures.value in
+    let x = refused_as c.loop-at.signature.slots c.in_ok-join.join.end _ _ c.if-slot-ge-MOST_SLOTS.false c.in_err-at-2.ensures.value in
     let out = handed _ _ _ (refused_slot _ _ h c.in_ok-next.next c.loop-at-test.true (sym c.in_ok-next.ensures.value) n.0 n.1 c.in_ok-join.join _ (sym c.in_ok-join.ensures.value) x) (rw (p.1, p.2) refl) in
     record { value = out.0; left = out.1 }
 
 pub add_slot-requires : goal.add_slot-requires
 add_slot-requires g c =
     let h = c.loop-at.invariant in
-    let b = c.in_ok-join.ensures.bound in
-    record { some = h.some; room = c.if-slot-ge32.false; ordered = b.0; narrow = b.1 }
+    record { some = h.some; room = c.if-slot-ge-MOST_SLOTS.false; allowed = c.in_ok-join.ensures.allowed }
 
 pub loop-at-smaller : goal.loop-at-smaller
-loop-at-smaller g c = let few = c.if-slot-ge32.false in omega (arith, c.add_slot.ensures.slots)
+loop-at-smaller g c = let few = c.if-slot-ge-MOST_SLOTS.false in omega (arith, c.add_slot.ensures.slots)
 
 pub loop-at-preserved : goal.loop-at-preserved
 loop-at-preserved g c =
     let s = c.args.text.now in
     let reads = g.G.WrittenGauge.reads in
     let h = c.loop-at.invariant in
-    let n = more c.loop-at.signature.slots h.room h.slots c.if-slot-ge32.false in
+    let n = more c.loop-at.signature.slots h.room h.slots c.if-slot-ge-MOST_SLOTS.false in
     let j = c.in_ok-join.join in
     let told = c.in_ok-at-2.ensures in
     let e = c.in_ok-at-2.at in
-    let v = read_as c.loop-at.signature.slots j.end e (reads s j.end) c.if-slot-ge32.false told.value in
+    let v = read_as c.loop-at.signature.slots j.end e (reads s j.end) c.if-slot-ge-MOST_SLOTS.false told.value in
     turned reads s h c.in_ok-next.next c.loop-at-test.true (sym c.in_ok-next.ensures.value) n.0 n.1 j v.0 e
     (sym c.in_ok-join.ensures.value) v.1 _ _ (g.met.G.WrittenGauge.within s j.end v.0 e v.1).1
     (rw v.1 at told.wrote) c.add_slot.ensures.slots c.add_slot.ensures.gaps c.add_slot.ensures.past
