@@ -1,6 +1,6 @@
 use Rattle.std.proofs.Common.{◌∙◌}
 use Rattle.gauges.proofs.Joined.{bit_of_and, bit_not}
-use Rattle.gauges.proofs.barring.BarringGauge.try_reading.Goals as goal
+use Rattle.gauges.proofs.barring.LessJoint.try_both.Goals as goal
 
 pub returns : goal.returns
 returns g c j l =

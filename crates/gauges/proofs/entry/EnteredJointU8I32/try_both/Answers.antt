@@ -1,6 +1,6 @@
 use Rattle.std.proofs.Common.{◌∙◌}
 use Rattle.gauges.proofs.Joined.{bit_of_and}
-use Rattle.gauges.proofs.both.BothGauge.try_reading.Goals as goal
+use Rattle.gauges.proofs.entry.EnteredJointU8I32.try_both.Goals as goal
 
 pub returns : goal.returns
 returns g c j l =
