@@ -120,7 +120,7 @@ module _ (T : Part) (fills : Fills T) (stops : Stops T) where
         (λ w ok3 is3.
         ways (leb v.value w.value) _ _ (Err x) is3
         (λ u f. absurd (no_refusal _ x f))
-        (λ u f. here MemberThen s a x in' (ap place_of (sym (err_same _ x f)) ∙ place) fill_member)))
+        (λ u f. here MemberThen s a x in' (ap place_of (sym (err_same _ x f))) fill_member)))
         (λ t f. absurd (no_refusal _ x f)))
 
     member_begins : (a b : ℕ) (f : ℕ → Bool) → MemberText s a b f → Begins T s b x → Begins MemberThen s a x
@@ -158,9 +158,9 @@ module _ (shut : Mark) where
       (λ f. member_fault Tail fill_tail tail_stops s x a in' f)
       (λ m ok is1.
       let member = member_sound s a m ok in
-      let w = member_inside s a m.end (covers m) member in
-      let far = member_far s a m.end (covers m) member in
-      member_begins Tail fill_tail tail_stops s x a m.end (covers m) member
+      let w = member_inside s a m.end (covers m.value) member in
+      let far = member_far s a m.end (covers m.value) member in
+      member_begins Tail fill_tail tail_stops s x a m.end (covers m.value) member
       (ways (is_mark shut s m.end) _ _ (Err x) is1
       (λ t f. absurd (no_refusal _ x f))
       (λ t is2. faults (mark_taken Slot Space s m.end) _ x is2

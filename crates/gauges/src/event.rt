@@ -5,7 +5,7 @@ ghost use Rattle.gauges.specs.Codes.{event_at};
 ghost use Rattle.gauges.specs.Tables.{held};
 ghost use Rattle.gauges.specs.Ends.{event_within, event_past};
 
-use crate::codes::read_codes;
+use crate::codes::{Codes, read_codes};
 use signature::gauge::{Gauge, WrittenGauge};
 use text::refusal::{Layer, Refusal};
 
@@ -22,6 +22,16 @@ impl Event {
         ensures { (j x : ℕ) → held result.table j x ≡ false }
     {
         Event { table: [0; 256] }
+    }
+
+    // Sets the slot's bit at each code of the set, and clears it at each other.
+    fn mark_codes(&mut self, slot: u32, codes: &Codes)
+        requires { slot < 32 }
+        ensures { (c : ℕ) → c < 256 → (j : ℕ) → bit (slice_index self.new.table c) j ≡ (if nat_eq j slot then slice_index_or codes.now.has c false else bit (slice_index self.old.table c) j) }
+    {
+        for (code, entry) in self.table.iter_mut().enumerate() {
+            *entry = with_bit(*entry, slot, codes.has(code as u8));
+        }
     }
 }
 
@@ -45,16 +55,6 @@ pub(crate) fn with_bit(entry: u32, slot: u32, on: bool) -> u32
     }
 }
 
-// Sets the slot's bit at each code of the set, and clears it at each other.
-fn mark_codes(table: &mut [u32], slot: u32, inside: &[bool])
-    requires { (length table.old ≡ 256) × ((length inside.now ≡ 256) × (slot < 32)) }
-    ensures { (c : ℕ) → c < 256 → (j : ℕ) → bit (slice_index table.new c) j ≡ (if nat_eq j slot then slice_index_or inside.now c false else bit (slice_index table.old c) j) }
-{
-    for code in 0..256usize {
-        table[code] = with_bit(table[code], slot, inside[code]);
-    }
-}
-
 impl Gauge for Event {
     type Reading = u8;
 
@@ -67,7 +67,7 @@ impl Gauge for Event {
     #[tactic(auto, using(crate::specs::TablesLemmas::emptied_codes))]
     fn empty_slot(&mut self, slot: u32) {
         if slot < 32 {
-            mark_codes(&mut self.table, slot, &[false; 256]);
+            self.mark_codes(slot, &Codes::new());
         }
     }
 }
@@ -86,14 +86,13 @@ impl WrittenGauge for Event {
                 place: at,
             });
         }
-        let mut inside = [false; 256];
-        match read_codes(text, at, &mut inside) {
-            Ok(end) => {
-                mark_codes(&mut self.table, slot, &inside);
-                Ok(end)
+        match read_codes(text, at) {
+            Ok(read) => {
+                self.mark_codes(slot, &read.value);
+                Ok(read.end)
             }
             Err(refusal) => {
-                mark_codes(&mut self.table, slot, &[false; 256]);
+                self.mark_codes(slot, &Codes::new());
                 Err(refusal)
             }
         }

@@ -1,12 +1,9 @@
-use Rattle.std.proofs.Common.{false, replicate, sym, refl, ◌∙◌, rules}
+use Rattle.std.proofs.Common.{sym, ◌∙◌, rules}
 use Rattle.signature.specs.Slots.{set_of}
 use Rattle.gauges.specs.Codes.{event_at}
-use Rattle.gauges.specs.TablesLemmas.{put_codes, get_or_replicate_same}
+use Rattle.gauges.specs.TablesLemmas.{put_codes}
 use Rattle.gauges.proofs.Events.{event_end, event_low, event_high, event_none}
 use Rattle.gauges.proofs.event.EventWrittenGauge.write_slot.Goals as goal
-
-pub read_codes-requires : goal.read_codes-requires
-read_codes-requires c = record { long = refl; empty = get_or_replicate_same 256 false }
 
 pub returns-in-Ok : goal.returns-in-Ok
 returns-in-Ok c =
@@ -15,7 +12,7 @@ returns-in-Ok c =
     let told = c.in-Ok.ensures in
     record {
       value = told.value ∙ event_end s at c.args.slot c.if-slot-ge32.false;
-      wrote = put_codes c.args.self.now.table c.mark_codes.new.table c.args.slot c.read_codes.new.inside (set_of (event_at s at)) (search rules) (search rules) c.mark_codes.ensures
+      wrote = put_codes c.args.self.now.table c.mark_codes.new.self.table c.args.slot c.in-Ok.read.value.has (set_of (event_at s at)) (search rules) (search rules) c.mark_codes.ensures
           (event_low s at _ _ told.value told.codes) (event_high s at);
     }
 
@@ -27,6 +24,6 @@ returns-in-Err c =
     let none = event_none s at _ told.value in
     record {
       value = told.value ∙ event_end s at c.args.slot c.if-slot-ge32.false;
-      wrote = put_codes c.args.self.now.table c.mark_codes-in-Err.new.table c.args.slot (replicate 256 false) (set_of (event_at s at)) (search rules) (search rules) c.mark_codes-in-Err.ensures
-          (λ k l. get_or_replicate_same 256 false k ∙ sym (none k)) (λ k l. none k);
+      wrote = put_codes c.args.self.now.table c.mark_codes-in-Err.new.self.table c.args.slot c.new.result.has (set_of (event_at s at)) (search rules) (search rules) c.mark_codes-in-Err.ensures
+          (λ k l. c.new.ensures k ∙ sym (none k)) (λ k l. none k);
     }
