@@ -6,6 +6,7 @@ ghost use Rattle.gauges.specs.Tables.{held};
 ghost use Rattle.gauges.specs.Ends.{event_within, event_past};
 
 use crate::codes::{Codes, read_codes};
+use runs::bits::bears;
 use signature::gauge::{Gauge, WrittenGauge};
 use text::refusal::{Layer, Refusal};
 
@@ -35,20 +36,12 @@ impl Event {
     }
 }
 
-// Whether the slot's bit is on.
-fn is_on(entry: u32, slot: u32) -> bool
-    requires { slot < 32 }
-    ensures { result ≡ bit entry slot }
-{
-    (entry >> slot) & 1 == 1
-}
-
 // The entry with the slot's bit on or off.
 pub(crate) fn with_bit(entry: u32, slot: u32, on: bool) -> u32
     requires { slot < 32 }
     ensures { (j : ℕ) → bit result j ≡ (if nat_eq j slot then on else bit entry j) }
 {
-    if is_on(entry, slot) == on {
+    if bears(entry, slot) == on {
         entry
     } else {
         entry ^ (1 << slot)

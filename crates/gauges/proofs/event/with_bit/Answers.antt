@@ -13,9 +13,9 @@ other false true h = refl
 other true true h = absurd (grind arith)
 other false false h = absurd (grind arith)
 
-pub returns-else-is_on-on : goal.returns-else-is_on-on
-returns-else-is_on-on c j =
-    let e = ap not (sym c.is_on.ensures) ∙ other _ _ c.if-is_on-on.false in
+pub returns-else-bears-on : goal.returns-else-bears-on
+returns-else-bears-on c j =
+    let e = ap not (sym c.bears.ensures) ∙ other _ _ c.if-bears-on.false in
     let d : j ≡ c.args.slot → bit c.args.entry j ≡ bit c.args.entry c.args.slot = ap (bit c.args.entry) in
     let f = ap (λ b. bit (bit_xor c.args.entry b) j) (one_shl c.args.slot 32 (omega arith)) ∙ flip c.args.entry c.args.slot j in
     f ∙ grind (arith, nat_tests, d)
