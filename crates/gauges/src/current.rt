@@ -32,7 +32,8 @@ impl Gauge for Current {
     fn try_reading(&self, reading: &i32) -> u32 {
         let mut word = 0;
         for (slot, band) in self.bands.iter().enumerate() {
-            word = with_bit(word, slot as u32, band.is_some_and(|band| band.holds(*reading)));
+            let on = band.is_some_and(|band| band.holds(*reading));
+            word = with_bit(word, slot as u32, on);
         }
         word
     }
@@ -58,6 +59,7 @@ impl WrittenGauge for Current {
                 place: at,
             });
         }
+        // As in `Event`, but for how a set is kept: a trait for the two would be longer than these three lines.
         let read = read_band(text, at);
         self.bands[slot as usize] = read.ok().map(|read| read.value);
         Ok(read?.end)

@@ -79,15 +79,9 @@ impl WrittenGauge for Event {
                 place: at,
             });
         }
-        match read_codes(text, at) {
-            Ok(read) => {
-                self.mark_codes(slot, &read.value);
-                Ok(read.end)
-            }
-            Err(refusal) => {
-                self.mark_codes(slot, &Codes::new());
-                Err(refusal)
-            }
-        }
+        // As in `Current`, but for how a set is kept: a trait for the two would be longer than these three lines.
+        let read = read_codes(text, at);
+        self.mark_codes(slot, &read.map_or(Codes::new(), |read| read.value));
+        Ok(read?.end)
     }
 }
