@@ -115,13 +115,6 @@ module _ {R : Type 0} (slot : ℕ) where
       go (inl same) = put j l x ∙ rw (eq-eqb j slot same) (sym (none (omega arith) x))
       go (inr other) = put j l x ∙ rw (ne_eqb j slot other) (kept j l other x)
 
-module _ {L R : Type 0} (slot at : ℕ) (p : Result (Parts L R × ℕ) Refusal) (x : Refusal) (is : Err x ≡ end_of slot at p) where
-  pub left_none : slot < 32 → (y : L) → left_of p y ≡ false
-  left_none few y = rw (not_written slot at p x is few) refl
-
-  pub right_none : slot < 32 → (y : R) → right_of p y ≡ false
-  right_none few y = rw (not_written slot at p x is few) refl
-
 module _ {L R V : Type 0} (join : Joins L R V) where
   pub end_joined : (slot at : ℕ) (p : Result (Parts L R × ℕ) Refusal) → end_of slot at p ≡ end_of slot at (p then (λ v. Ok (join v.0.left v.0.right, v.1)))
   end_joined slot at (Ok v) = refl

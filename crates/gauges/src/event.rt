@@ -6,7 +6,6 @@ ghost use Rattle.gauges.specs.Tables.{held};
 ghost use Rattle.gauges.specs.Ends.{event_within, event_past};
 
 use crate::codes::{Codes, read_codes};
-use runs::bits::bears;
 use signature::gauge::{Gauge, WrittenGauge};
 use text::refusal::{Layer, Refusal};
 
@@ -41,10 +40,10 @@ pub(crate) fn with_bit(entry: u32, slot: u32, on: bool) -> u32
     requires { slot < 32 }
     ensures { (j : ℕ) → bit result j ≡ (if nat_eq j slot then on else bit entry j) }
 {
-    if bears(entry, slot) == on {
-        entry
+    if on {
+        entry | (1 << slot)
     } else {
-        entry ^ (1 << slot)
+        entry & !(1 << slot)
     }
 }
 

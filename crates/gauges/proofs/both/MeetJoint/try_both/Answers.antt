@@ -1,5 +1,5 @@
 use Rattle.std.proofs.Common.{◌∙◌}
-use Rattle.gauges.proofs.Joined.{bit_of_and}
+use Rattle.gauges.proofs.Words.{bit_of_and}
 use Rattle.gauges.proofs.both.MeetJoint.try_both.Goals as goal
 
 pub returns : goal.returns
