@@ -147,9 +147,6 @@ module _ (shut : Mark) where
   as_members t a (b, f, member, inl close) = (f, last member close)
   as_members t a (b, f, member, inr (c, space, (g, rest))) = (_, more member space rest)
 
-  fill_members : Fills Members
-  fill_members = fill_as (MemberThen Tail fill_tail tail_stops) Members as_members (fill_member Tail fill_tail tail_stops)
-
   members_fault : (s : List ℕ) (x : Refusal) (n a : ℕ) → a ≤ length s → length s < a + n → members_from n shut s a ≡ Err x → Begins Members s a x
   members_fault s x zero a in' room is = absurd (omega arith)
   members_fault s x (suc n) a in' room is =

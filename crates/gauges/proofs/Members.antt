@@ -49,15 +49,9 @@ begin shut s start none empty h = record {
 }
 
 module _ {shut : Mark} {s : List ℕ} {start place : ℕ} {inside : List Bool} (h : Sofar shut s start place inside) where
-  pub refused_there : (e : Refusal) → member_at s place ≡ Err e → members_at shut s start ≡ Err e
-  refused_there e is = rw is at h.whole
-
   module _ (m : Parsed Member) (is : member_at s place ≡ Ok m) where
     pub closed_there : is_mark shut s m.end ≡ true → members_at shut s start ≡ Ok (h.ms ++ m.value ∷ [], m.end + 1)
     closed_there t = rw (is, t) at h.whole
-
-    pub unmarked_there : (x : Refusal) → is_mark shut s m.end ≡ false → mark_taken Slot Space s m.end ≡ Err x → members_at shut s start ≡ Err x
-    unmarked_there x t u = rw (is, t, u) at h.whole
 
     module _ (next : ℕ) (t : is_mark shut s m.end ≡ false) (u : mark_taken Slot Space s m.end ≡ Ok next) (in' : next ≤ length s) (far : place < next) where
       one_more : (n : ℕ) → length s ≤ place + n

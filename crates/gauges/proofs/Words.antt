@@ -1,5 +1,5 @@
 -- The bits of a word after `&` and `!`, and after one of them was set or cleared.
-use Rattle.std.proofs.Common.{◌≡◌, ℕ, ◌*◌, ◌-◌, ◌%◌, ◌^◌, ◌<◌, ◌≤◌, Bool, true, false, cond, not, ◌&&◌, eqb, ◌⊎◌, ◌≢◌, inl, inr, refl, w32, arith}
+use Rattle.std.proofs.Common.{◌≡◌, ℕ, ◌*◌, ◌-◌, ◌%◌, ◌^◌, ◌<◌, ◌≤◌, true, false, cond, not, ◌&&◌, eqb, ◌⊎◌, ◌≢◌, inl, inr, refl, w32, arith}
 use lib.Bits.{bit_and}
 use Rattle.std.specs.Int.{bit_not as lacking}
 use Rattle.std.specs.Int.RustNames.{bit_or}

@@ -24,6 +24,7 @@ impl<X> Joint<X, X> for Less {
 
     const MARK: Mark = Mark::Bang;
 
+    #[tactic(auto, using(crate::proofs::Words::bit_of_and, crate::proofs::Words::bit_not))]
     fn try_both<L, R>(left: &L, right: &R, reading: &X) -> u32
     where
         L: Gauge<Reading = X>,

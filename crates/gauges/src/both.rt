@@ -24,6 +24,7 @@ impl<X> Joint<X, X> for Meet {
 
     const MARK: Mark = Mark::And;
 
+    #[tactic(auto, using(crate::proofs::Words::bit_of_and))]
     fn try_both<L, R>(left: &L, right: &R, reading: &X) -> u32
     where
         L: Gauge<Reading = X>,

@@ -31,6 +31,7 @@ impl Joint<u8, i32> for Entered {
 
     const MARK: Mark = Mark::At;
 
+    #[tactic(auto, using(crate::proofs::Words::bit_of_and))]
     fn try_both<E, C>(events: &E, currents: &C, entry: &Entry) -> u32
     where
         E: Gauge<Reading = u8>,

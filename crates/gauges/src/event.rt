@@ -36,6 +36,7 @@ impl Event {
 }
 
 // The entry with the slot's bit on or off.
+#[tactic(auto, using(crate::proofs::Words::bit_set, crate::proofs::Words::bit_cleared))]
 pub(crate) fn with_bit(entry: u32, slot: u32, on: bool) -> u32
     requires { slot < 32 }
     ensures { (j : ℕ) → bit result j ≡ (if nat_eq j slot then on else bit entry j) }
