@@ -12,6 +12,7 @@ use Rattle.text.proofs.Bounds.{mark_inside, mark_within}
 use Rattle.text.proofs.Local.{Agree, agree, Local, ok_local, err_local, later_local, cond_local, then_local, same_mark, mark_local, number_local, not_backward}
 use Rattle.signature.specs.Refused.{Looks, RefusedAlike}
 use Rattle.signature.proofs.Alike.{refused_alike}
+use Rattle.text.specs.declared.parsed.Parsed.{Parsed}
 use Rattle.gauges.specs.declared.codes.Member.{Member}
 use Rattle.gauges.specs.Codes.{member_at, members_from, members_at, slot_at, event_at}
 use Rattle.gauges.specs.Ends.{event_within}
@@ -26,7 +27,7 @@ turns (suc n) (suc k) shut s a in' l m =
     let on = member_inside s a v.end _ (member_sound s a v is) in
     ap (cond (is_mark shut s v.end) _) (then_same (mark_taken Slot Space s v.end) _ _ (λ e space.
     let w = mark_within Slot Space s v.end e space in
-    ap (λ r. ◌then◌ {B = List Member × ℕ} r (λ rest. Ok (v ∷ rest.0, rest.1))) (turns n k shut s e w.1 (omega arith) (omega arith)))))
+    ap (λ r. ◌then◌ {B = List Member × ℕ} r (λ rest. Ok (v.value ∷ rest.0, rest.1))) (turns n k shut s e w.1 (omega arith) (omega arith)))))
 
 module _ (s t : List ℕ) (p : ℕ) (h : Agree s t p) where
   abbrev place : ℕ → ℕ
@@ -35,7 +36,7 @@ module _ (s t : List ℕ) (p : ℕ) (h : Agree s t p) where
   abbrev stops : Parsed ℕ → ℕ
   stops n = n.end
 
-  abbrev ends : Member → ℕ
+  abbrev ends : Parsed Member → ℕ
   ends m = m.end
 
   abbrev behind : {V : Type 0} → V × ℕ → ℕ

@@ -1,5 +1,5 @@
 -- Where a slot of event codes is refused, the bytes before the refusal's place begin some slot.
-use Rattle.std.proofs.Common.{◌≡◌, ℕ, zero, suc, ◌+◌, ◌<◌, ◌≤◌, Bool, true, false, leb, ◌⊎◌, List, [], ◌∷◌, ◌++◌, length, get_or, take, Err, sym, refl, ap, ◌∙◌, subst, inl, inr, arith}
+use Rattle.std.proofs.Common.{◌≡◌, ℕ, zero, suc, ◌+◌, ◌<◌, ◌≤◌, Bool, true, false, leb, ◌⊎◌, List, [], ◌∷◌, ◌++◌, length, get_or, take, Err, sym, refl, ap, subst, inl, inr, arith}
 use Rattle.text.specs.declared.mark.Mark.{Mark}
 use Rattle.text.specs.declared.mark.Mark.TheVariants.{Gap as Cross, ClassOpen, ClassClose, BarredOpen, BarredClose, Colon, Space}
 use Rattle.text.specs.declared.refusal.Layer.TheVariants.{Slot}
@@ -147,9 +147,6 @@ module _ (shut : Mark) where
   as_members t a (b, f, member, inl close) = (f, last member close)
   as_members t a (b, f, member, inr (c, space, (g, rest))) = (_, more member space rest)
 
-  fill_members : Fills Members
-  fill_members = fill_as (MemberThen Tail fill_tail tail_stops) Members as_members (fill_member Tail fill_tail tail_stops)
-
   members_fault : (s : List ℕ) (x : Refusal) (n a : ℕ) → a ≤ length s → length s < a + n → members_from n shut s a ≡ Err x → Begins Members s a x
   members_fault s x zero a in' room is = absurd (omega arith)
   members_fault s x (suc n) a in' room is =
@@ -158,9 +155,9 @@ module _ (shut : Mark) where
       (λ f. member_fault Tail fill_tail tail_stops s x a in' f)
       (λ m ok is1.
       let member = member_sound s a m ok in
-      let w = member_inside s a m.end (covers m) member in
-      let far = member_far s a m.end (covers m) member in
-      member_begins Tail fill_tail tail_stops s x a m.end (covers m) member
+      let w = member_inside s a m.end (covers m.value) member in
+      let far = member_far s a m.end (covers m.value) member in
+      member_begins Tail fill_tail tail_stops s x a m.end (covers m.value) member
       (ways (is_mark shut s m.end) _ _ (Err x) is1
       (λ t f. absurd (no_refusal _ x f))
       (λ t is2. faults (mark_taken Slot Space s m.end) _ x is2

@@ -1,6 +1,7 @@
 -- A slot of event codes is read just where the grammar derives it.
 use Rattle.std.proofs.Common.{◌≡◌, ℕ, zero, suc, ◌+◌, ◌<◌, ◌≤◌, Bool, true, false, not, ◌&&◌, ◌||◌, eqb, ltb, leb, List, [], ◌∷◌, length, get_or, IfOk, Ok, Result, sym, refl, ap, ◌∙◌, subst, arith}
 use Rattle.std.proofs.lemmas.Bool.Decides.{nat_tests}
+use Rattle.std.proofs.lemmas.Result.{IfOk-weaker}
 use Rattle.text.specs.declared.mark.Mark.{Mark}
 use Rattle.text.specs.declared.mark.Mark.TheVariants.{ClassOpen, ClassClose, BarredOpen, BarredClose, Colon, Space}
 use Rattle.text.specs.declared.refusal.Layer.TheVariants.{Slot}
@@ -11,8 +12,10 @@ use Rattle.text.specs.Grammar.{NumberText}
 use Rattle.text.proofs.Steps.{ok_same, both, ways}
 use Rattle.text.proofs.Bounds.{number_within}
 use Rattle.text.proofs.Derived.{mark_sound, mark_complete, number_sound, number_complete, digit_no_mark, one_mark}
+use Rattle.text.specs.declared.parsed.Parsed.{Parsed}
 use Rattle.gauges.specs.declared.codes.Member.{Member}
-use Rattle.gauges.specs.Codes.{member_at, covers, covers_any, members_from, members_at, Listed, holds, slot_at, event_at, behind}
+use Rattle.gauges.specs.declared.codes.Codes.{Codes}
+use Rattle.gauges.specs.Codes.{member_at, covers, covers_any, members_from, members_at, Listed, holds, slot_at, event_at, behind, ended}
 use Rattle.gauges.specs.Grammar.{range, MemberText, lone, pair, MembersText, last, more, EventText, code, listed, barred, EventExactly, ReadsSlot}
 
 abbrev Sets : Type 0
@@ -20,7 +23,7 @@ Sets = ℕ → Bool
 
 -- what is read is derived
 
-pub member_sound : (s : List ℕ) (a : ℕ) (m : Member) → member_at s a ≡ Ok m → MemberText s a m.end (covers m)
+pub member_sound : (s : List ℕ) (a : ℕ) (m : Parsed Member) → member_at s a ≡ Ok m → MemberText s a m.end (covers m.value)
 member_sound s a m is =
     let (v, first, is1) = both (number_at 255 s a) _ m is in
     let (number, small) = number_sound s a 255 v first in
@@ -31,9 +34,9 @@ member_sound s a m is =
     ways (leb v.value w.value) _ _ (Ok m) is3
     (λ u out.
     let le : v.value ≤ w.value = grind (arith, nat_tests) in
-    subst (λ m. MemberText s a m.end (covers m)) (ok_same _ _ out) (pair number (record { stands = t; behind = refl }) number' le small'))
+    subst (λ (m : Parsed Member). MemberText s a m.end (covers m.value)) (ok_same _ _ out) (pair number (record { stands = t; behind = refl }) number' le small'))
     (λ u f. absurd (let z : ◌≡◌ {A = ℕ} 0 1 = cc in omega arith)))
-    (λ t out. subst (λ m. MemberText s a m.end (covers m)) (ok_same _ _ out) (lone number small))
+    (λ t out. subst (λ (m : Parsed Member). MemberText s a m.end (covers m.value)) (ok_same _ _ out) (lone number small))
 
 or_none : (b : Bool) → b ≡ (b || false)
 or_none true = refl
@@ -46,7 +49,7 @@ members_sound (suc n) shut s a ms is =
     let member = member_sound s a m first in
     ways (is_mark shut s m.end) _ _ (Ok ms) is1
     (λ t out.
-    let one : covers m ≡ covers_any (m ∷ []) = λ i c. or_none (covers m c) i in
+    let one : covers m.value ≡ covers_any (m.value ∷ []) = λ i c. or_none (covers m.value c) i in
     subst (λ ms. MembersText shut s a ms.1 (covers_any ms.0)) (ok_same _ _ out)
     (subst (MembersText shut s a (m.end + 1)) one (last member (record { stands = t; behind = refl }))))
     (λ t is2.
@@ -97,15 +100,15 @@ slot_sound s a v is =
 -- what is derived is read
 
 abbrev Read : List ℕ → ℕ → ℕ → Sets → Type 0
-Read s a b f = (m : Member) × (member_at s a ≡ Ok m) × (m.end ≡ b) × ((c : ℕ) → covers m c ≡ f c)
+Read s a b f = (m : Parsed Member) × (member_at s a ≡ Ok m) × (m.end ≡ b) × ((c : ℕ) → covers m.value c ≡ f c)
 
 member_complete : (s : List ℕ) (a b : ℕ) (f : Sets) → is_mark Colon s b ≡ false → MemberText s a b f → Read s a b f
 member_complete s a b _ free (lone {v = v} number small) =
-    (record { low = v; high = v; end = b }, rw (number_complete s a 255 b v number small, free) refl, refl, λ c. refl)
+    (record { value = record { low = v; high = v }; end = b }, rw (number_complete s a 255 b v number small, free) refl, refl, λ c. refl)
 member_complete s a d _ free (pair {b = b} {c = c} {v = v} {w = w} number colon number' le small) =
     let t : leb v w ≡ true = grind (arith, nat_tests) in
     let second : number_at 255 s (b + 1) ≡ Ok (record { value = w; end = d }) = number_complete s (b + 1) 255 d w (subst (λ i. NumberText s i d w) colon.behind number') small in
-    (record { low = v; high = w; end = d }, rw (number_complete s a 255 b v number (omega arith), colon.stands, second, t) refl, refl, λ c. refl)
+    (record { value = record { low = v; high = w }; end = d }, rw (number_complete s a 255 b v number (omega arith), colon.stands, second, t) refl, refl, λ c. refl)
 
 pub number_inside : (s : List ℕ) (a b v : ℕ) → NumberText s a b v → (a < b) × (b ≤ length s)
 number_inside s a b v t = number_within v s a (record { value = v; end = b }) (number_complete s a v b v t (omega arith))
@@ -130,7 +133,7 @@ members_complete (suc n) shut s a b f closes room (last {b = e} member end) =
     let (m, is, far, sets) = member_complete s a e f (one_mark shut Colon s e closes.0 end.stands) member in
     let t : is_mark shut s m.end ≡ true = ap (is_mark shut s) far ∙ end.stands in
     let at : m.end + 1 ≡ b = ap (λ i. i + 1) far ∙ sym end.behind in
-    (m ∷ [], rw (is, t, at) refl, λ c. sym (or_none (covers m c)) ∙ sets c)
+    (m.value ∷ [], rw (is, t, at) refl, λ c. sym (or_none (covers m.value c)) ∙ sets c)
 members_complete (suc n) shut s a b _ closes room (more {b = d} {c = e} {f = f} {g = g} member space rest) =
     let (m, is, far, sets) = member_complete s a d f (one_mark Space Colon s d refl space.stands) member in
     let l = member_inside s a d f member in
@@ -138,13 +141,13 @@ members_complete (suc n) shut s a b _ closes room (more {b = d} {c = e} {f = f} 
     let (ms, onward, more-sets) = members_complete n shut s e b g closes (omega arith) rest in
     let t : is_mark shut s m.end ≡ false = ap (is_mark shut s) far ∙ one_mark Space shut s d closes.1 space.stands in
     let u : mark_taken Slot Space s m.end ≡ Ok e = ap (mark_taken Slot Space s) far ∙ mark_complete s d Slot Space e space in
-    (m ∷ ms, rw (is, t, u, onward) refl, λ c. rw (sets c, more-sets c) refl)
+    (m.value ∷ ms, rw (is, t, u, onward) refl, λ c. rw (sets c, more-sets c) refl)
 
 slot_complete : (s : List ℕ) (a b : ℕ) (f : Sets) → EventText s a b f → (l : Listed) × (slot_at s a ≡ Ok (l, b)) × ((c : ℕ) → (ltb c 256 && holds l c) ≡ f c)
 unfolding members_at
 slot_complete s a b _ (code {v = v} number small) =
     let digit = number.digits a (omega arith) number.some in (
-      record { members = record { low = v; high = v; end = b } ∷ []; barred = false },
+      record { members = record { low = v; high = v } ∷ []; barred = false },
       rw (digit_no_mark ClassOpen s a digit, digit_no_mark BarredOpen s a digit, number_complete s a 255 b v number small) refl,
       λ c. grind (arith, nat_tests),
     )
@@ -171,20 +174,20 @@ event_exactly s a b f = (
       rw slot (ap (λ (g : Sets). Ok (g, b)) same)),
 )
 
--- what was read is in hand, by the grammar
-pub reads_slot : (s : List ℕ) (a : ℕ) (r : Result ℕ Refusal) (inside : List Bool) → r ≡ behind (slot_at s a)
-    → IfOk (slot_at s a) (λ v. (c : ℕ) → c < 256 → get_or inside c false ≡ holds v.0 c) → ReadsSlot s a r inside
-reads_slot s a r inside value codes = record {
+-- what was read is in the set, by the grammar
+pub reads_slot : (s : List ℕ) (a : ℕ) (r : Result (Parsed Codes) Refusal) → ended r ≡ behind (slot_at s a)
+    → IfOk r (λ v. IfOk (slot_at s a) (λ w. (c : ℕ) → c < 256 → get_or v.value.has c false ≡ holds w.0 c)) → ReadsSlot s a r
+reads_slot s a r value codes = record {
   derived = λ b. (
     (λ is.
         let (v, slot, out) = both (slot_at s a) _ b (sym value ∙ is) in
         ((events_of v).0, subst (λ e. EventText s a e (events_of v).0) (ok_same _ _ out) (slot_sound s a v slot))),
     (λ (f, text). let (l, slot, sets) = slot_complete s a b f text in value ∙ ap behind slot),
   );
-  held = λ b f text c low.
+  held = λ b f text. IfOk-weaker r _ _ (λ v in' c low.
       let (l, slot, sets) = slot_complete s a b f text in
-      let in' = rw slot at codes in
-      let all = in' c low in
+      let all = rw slot at in' in
+      let here = all c low in
       let set = sets c in
-      grind (arith, nat_tests);
+      grind (arith, nat_tests)) codes;
 }

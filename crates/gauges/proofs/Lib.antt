@@ -1,8 +1,7 @@
 pub mod Members
-pub mod Flips
+pub mod Words
 pub mod Events
 pub mod Derived
 pub mod Alike
 pub mod Begins
-pub mod Joined
 pub mod Sheets

@@ -13,13 +13,13 @@ use Rattle.text.specs.Marks.{is_mark}
 use Rattle.text.proofs.Bounds.{number_within, signed_within, signed_past}
 use Rattle.signature.specs.Sets.{Put}
 use Rattle.signature.specs.Slots.{set_of, end_of, Within, Past}
+use Rattle.text.specs.declared.parsed.Parsed.{Parsed}
 use Rattle.gauges.specs.declared.band.Band.{Band}
-use Rattle.gauges.specs.declared.band.ReadBand.{ReadBand}
 use Rattle.gauges.specs.Currents.{band_at, current_at, held_by, banded}
 use Rattle.gauges.specs.TablesLemmas.{get_or_replicate_same}
 use Rattle.text.proofs.Steps.{both, ok_same, ways}
 
-band_within : (s : List ℕ) (at : ℕ) (b : ReadBand) → band_at s at ≡ Ok b → (at < b.end) × (b.end ≤ length s)
+band_within : (s : List ℕ) (at : ℕ) (b : Parsed Band) → band_at s at ≡ Ok b → (at < b.end) × (b.end ≤ length s)
 band_within s at b is =
     let (t, first, rest) = both (signed_at s at) _ b is in
     let n = signed_within s at t first in
@@ -52,12 +52,12 @@ put_band bands slot band holds long is j l x = go (cases_eq j slot)
     go (inr other) = rw (ne_eqb j slot other, get_or-set_other) refl
 
 module _ (s : List ℕ) (at slot : ℕ) (few : slot < 32) where
-  module _ (b : ReadBand) (is : Ok b ≡ band_at s at) where
+  module _ (b : Parsed Band) (is : Ok b ≡ band_at s at) where
     pub band_end : Ok b.end ≡ end_of slot at (current_at s at)
     unfolding current_at
     band_end = rw (sym is, lt-ltb slot 32 few) refl
 
-    pub band_set : (x : ℤ) → held_by (Some b.band) x ≡ set_of (current_at s at) x
+    pub band_set : (x : ℤ) → held_by (Some b.value) x ≡ set_of (current_at s at) x
     unfolding current_at
     band_set x = rw (sym is) refl
 

@@ -8,17 +8,18 @@ use Rattle.text.specs.declared.refusal.Refusal.TheVariants.{NoDigit, Backward}
 use Rattle.text.specs.Refusals.{◌then◌}
 use Rattle.text.specs.Numbers.{number_at}
 use Rattle.text.specs.Marks.{is_mark, mark_taken}
+use Rattle.text.specs.declared.parsed.Parsed.{Parsed}
 use Rattle.gauges.specs.declared.codes.Member.{Member}
 use Rattle.signature.specs.Slots.{Reads}
 
 -- a code, or two codes with `:` between, of which the first is no greater
-abbrev pub member_at : List ℕ → ℕ → Result Member Refusal
+abbrev pub member_at : List ℕ → ℕ → Result (Parsed Member) Refusal
 member_at s at =
     number_at 255 s at then (λ a.
     cond (is_mark Colon s a.end)
     (number_at 255 s (a.end + 1) then (λ b.
-    cond (nat_le a.value b.value) (Ok (record { low = a.value; high = b.value; end = b.end })) (Err (Backward InSlot at))))
-    (Ok (record { low = a.value; high = a.value; end = a.end })))
+    cond (nat_le a.value b.value) (Ok (record { value = record { low = a.value; high = b.value }; end = b.end })) (Err (Backward InSlot at))))
+    (Ok (record { value = record { low = a.value; high = a.value }; end = a.end })))
 
 -- both ends of a member count
 abbrev pub covers : Member → ℕ → Bool
@@ -34,9 +35,9 @@ abbrev pub members_from : ℕ → Mark → List ℕ → ℕ → Result (List Mem
 members_from zero shut s at = Err (NoDigit at)
 members_from (suc n) shut s at =
     member_at s at then (λ m.
-    cond (is_mark shut s m.end) (Ok (m ∷ [], m.end + 1))
+    cond (is_mark shut s m.end) (Ok (m.value ∷ [], m.end + 1))
     (mark_taken InSlot Space s m.end then (λ next.
-    members_from n shut s next then (λ rest. Ok (m ∷ rest.0, rest.1)))))
+    members_from n shut s next then (λ rest. Ok (m.value ∷ rest.0, rest.1)))))
 
 unfoldable pub members_at : Mark → List ℕ → ℕ → Result (List Member × ℕ) Refusal
 members_at shut s at = members_from (suc (length s)) shut s at
@@ -54,7 +55,7 @@ abbrev pub slot_at : List ℕ → ℕ → Result (Listed × ℕ) Refusal
 slot_at s at =
     cond (is_mark ClassOpen s at) (members_at ClassClose s (at + 1) then (λ ms. Ok (record { members = ms.0; barred = false }, ms.1)))
     (cond (is_mark BarredOpen s at) (members_at BarredClose s (at + 1) then (λ ms. Ok (record { members = ms.0; barred = true }, ms.1)))
-    (number_at 255 s at then (λ n. Ok (record { members = record { low = n.value; high = n.value; end = n.end } ∷ []; barred = false }, n.end))))
+    (number_at 255 s at then (λ n. Ok (record { members = record { low = n.value; high = n.value } ∷ []; barred = false }, n.end))))
 
 -- codes are the numbers from 0 to 255
 unfoldable pub event_at : Reads ℕ
@@ -63,3 +64,6 @@ event_at s at = slot_at s at then (λ v. Ok ((λ c. nat_lt c 256 && holds v.0 c)
 -- the place behind what is read
 abbrev pub behind : {V : Type 0} → Result (V × ℕ) Refusal → Result ℕ Refusal
 behind r = r then (λ v. Ok v.1)
+
+abbrev pub ended : {V : Type 0} → Result (Parsed V) Refusal → Result ℕ Refusal
+ended r = r then (λ v. Ok v.end)

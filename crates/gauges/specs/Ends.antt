@@ -11,10 +11,11 @@ use Rattle.text.specs.Marks.{is_mark, mark_taken}
 use Rattle.text.proofs.Steps.{both, ok_same, ways}
 use Rattle.text.proofs.Bounds.{number_within, number_past, mark_inside, mark_past, mark_within}
 use Rattle.signature.specs.Slots.{Within, Past}
+use Rattle.text.specs.declared.parsed.Parsed.{Parsed}
 use Rattle.gauges.specs.declared.codes.Member.{Member}
 use Rattle.gauges.specs.Codes.{member_at, members_from, members_at, Listed, slot_at, event_at}
 
-member_within : (s : List ℕ) (at : ℕ) (m : Member) → member_at s at ≡ Ok m → (at < m.end) × (m.end ≤ length s)
+member_within : (s : List ℕ) (at : ℕ) (m : Parsed Member) → member_at s at ≡ Ok m → (at < m.end) × (m.end ≤ length s)
 member_within s at m is =
     let (a, first, rest) = both (number_at 255 s at) _ m is in
     let n = number_within 255 s at a first in

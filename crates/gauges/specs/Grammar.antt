@@ -1,10 +1,12 @@
 -- The grammar of a slot of event codes: what stands in the text from place a up to place b, and the codes that it stands for.
-use Rattle.std.specs.Prelude.{◌≡◌, ℕ, ◌<◌, ◌≤◌, Bool, false, not, ◌&&◌, ◌||◌, ◌↔◌, List, Ok, Result, nat_le, nat_lt, slice_index_or}
+use Rattle.std.specs.Prelude.{◌≡◌, ℕ, ◌<◌, ◌≤◌, Bool, false, not, ◌&&◌, ◌||◌, ◌↔◌, List, Ok, IfOk, Result, nat_le, nat_lt, slice_index_or}
 use Rattle.text.specs.declared.mark.Mark.{Mark}
 use Rattle.text.specs.declared.mark.Mark.TheVariants.{ClassOpen, ClassClose, BarredOpen, BarredClose, Colon, Space}
 use Rattle.text.specs.declared.refusal.Refusal.{Refusal}
 use Rattle.text.specs.Grammar.{MarkText, NumberText}
-use Rattle.gauges.specs.Codes.{event_at}
+use Rattle.text.specs.declared.parsed.Parsed.{Parsed}
+use Rattle.gauges.specs.declared.codes.Codes.{Codes}
+use Rattle.gauges.specs.Codes.{event_at, ended}
 
 -- the codes from v to w, both counted
 abbrev pub range : ℕ → ℕ → ℕ → Bool
@@ -35,7 +37,7 @@ pub data EventText (s : List ℕ) : ℕ → ℕ → (ℕ → Bool) → Type 0 wh
 abbrev pub EventExactly : Type 0
 EventExactly = (s : List ℕ) (a b : ℕ) (f : ℕ → Bool) → event_at s a ≡ Ok (f, b) ↔ EventText s a b f
 
--- an answer is the place behind a slot just where the grammar derives that slot; its codes are then in hand
-pub record ReadsSlot (s : List ℕ) (a : ℕ) (r : Result ℕ Refusal) (inside : List Bool) : Type 0 where
-  pub derived : (b : ℕ) → r ≡ Ok b ↔ ((f : ℕ → Bool) × EventText s a b f)
-  pub held : (b : ℕ) (f : ℕ → Bool) → EventText s a b f → (c : ℕ) → c < 256 → slice_index_or inside c false ≡ f c
+-- a slot is read just where the grammar derives it, and its codes are then in the set
+pub record ReadsSlot (s : List ℕ) (a : ℕ) (r : Result (Parsed Codes) Refusal) : Type 0 where
+  pub derived : (b : ℕ) → ended r ≡ Ok b ↔ ((f : ℕ → Bool) × EventText s a b f)
+  pub held : (b : ℕ) (f : ℕ → Bool) → EventText s a b f → IfOk r (λ v. (c : ℕ) → c < 256 → slice_index_or v.value.has c false ≡ f c)

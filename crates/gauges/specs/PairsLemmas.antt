@@ -1,9 +1,9 @@
 -- Two slots with a mark between them: where the text ends, and what writing it leaves.
-use Rattle.std.specs.Prelude.{◌≡◌, ℕ, ◌<◌, ◌≤◌, Bool, true, false, cond, ◌⊎◌, List, length, is_ok, Ok, Err, Result, ◌==◌, ◌≢◌, nat_lt}
+use Rattle.std.specs.Prelude.{◌≡◌, ℕ, ◌<◌, ◌≤◌, Bool, true, false, cond, List, length, is_ok, Ok, Err, Result, ◌==◌, nat_lt}
 use Rattle.std.proofs.Math.Path.{refl, ap}
-use Rattle.std.proofs.Common.{sym, ◌∙◌, inl, inr}
+use Rattle.std.proofs.Common.{sym, ◌∙◌}
 use native.Mathlib.Omega.{arith}
-use Rattle.std.proofs.lemmas.Bool.{cases_eq, eq-eqb, ne_eqb, lt-ltb}
+use Rattle.std.proofs.lemmas.Bool.{lt-ltb}
 use Rattle.std.proofs.lemmas.Bool.Decides.{nat_tests}
 use Rattle.text.specs.declared.mark.Mark.{Mark}
 use Rattle.text.specs.declared.refusal.Layer.TheVariants.{Slot}
@@ -14,7 +14,7 @@ use Rattle.text.specs.Words.{place_in}
 use Rattle.text.proofs.Bounds.{mark_within}
 use Rattle.signature.specs.Sets.{Put, nothing}
 use Rattle.signature.specs.Slots.{Reads, set_of, end_of, Within, Past}
-use Rattle.gauges.specs.Pairs.{Parts, parts_at, left_of, right_of, Joins, pair_at, Kept}
+use Rattle.gauges.specs.Pairs.{Parts, parts_at, left_of, right_of, Joins, pair_at}
 use Rattle.text.proofs.Steps.{both, ok_same}
 
 -- where writing was refused, what would have been read next changes nothing
@@ -28,11 +28,6 @@ refused_on false a f x y is = is
 pub written : {A : Type 0} (slot at : ℕ) (a : Result (A × ℕ) Refusal) (e : ℕ) → Ok e ≡ end_of slot at a → (slot < 32) × ((v : A) × (a ≡ Ok (v, e)))
 written slot at (Ok v) e is = let q : v.1 ≡ e = grind (arith, nat_tests) in (grind (arith, nat_tests), (v.0, ap (λ n. Ok (v.0, n)) q))
 written slot at (Err x) e is = absurd (grind (arith, nat_tests))
-
--- where one of the 32 slots was not written, its text was refused
-not_written : {A : Type 0} (slot at : ℕ) (a : Result (A × ℕ) Refusal) (x : Refusal) → Err x ≡ end_of slot at a → slot < 32 → a ≡ Err x
-not_written slot at (Ok v) x is few = absurd (grind (arith, nat_tests))
-not_written slot at (Err y) x is few = grind (arith, nat_tests)
 
 module _ {L R : Type 0} (mark : Mark) (l : Reads L) (r : Reads R) where
   parts_within : Within l → Within r → (s : List ℕ) (at : ℕ) (p : Parts L R) (e : ℕ) → parts_at mark l r s at ≡ Ok (p, e) → (place_in s at ≤ e) × (e ≤ length s)
@@ -50,17 +45,6 @@ module _ {L R : Type 0} (mark : Mark) (l : Reads L) (r : Reads R) where
   parts_past : Past l → (s : List ℕ) (at : ℕ) → length s ≤ at → parts_at mark l r s at ≡ parts_at mark l r s (length s)
   unfolding parts_at
   parts_past first s at h = rw (first s at h) refl
-
-  module _ {V : Type 0} (join : Joins L R V) where
-    pub pair_within : Within l → Within r → Within (pair_at mark join l r)
-    pair_within first second s at v e is =
-        let (p, parts, out) = both (parts_at mark l r s at) _ (v, e) is in
-        let b = parts_within first second s at p.0 p.1 parts in
-        let same : p.1 ≡ e = ap (λ q. q.1) (ok_same _ _ out) in
-        (omega arith, omega arith)
-
-    pub pair_past : Past l → Past (pair_at mark join l r)
-    pair_past first s at h = rw (parts_past first s at h) refl
 
   module _ (s : List ℕ) (slot at : ℕ) where
     pub refused_left : (x : Refusal) → Err x ≡ end_of slot at (l s at) → Err x ≡ end_of slot at (parts_at mark l r s at)
@@ -99,43 +83,41 @@ module _ {L R : Type 0} (mark : Mark) (l : Reads L) (r : Reads R) where
         sets_read (Ok e) is ok = let (few', (w, to)) = written slot next (r s next) e is in sets_as w e to
         sets_read (Err x) is ok = absurd (grind arith)
 
+-- what left, the mark and right stand for
+module _ {L R V : Type 0} (mark : Mark) (join : Joins L R V) (reads : Reads L → Reads R → Reads V) (is : reads ≡ pair_at mark join) (l : Reads L) (r : Reads R) where
+  pub pair_within : Within l → Within r → Within (reads l r)
+  pair_within first second s at v e told =
+      let (p, parts, out) = both (parts_at mark l r s at) _ (v, e) (rw is at told) in
+      let b = parts_within mark l r first second s at p.0 p.1 parts in
+      let same : p.1 ≡ e = ap (λ q. q.1) (ok_same _ _ out) in
+      (omega arith, omega arith)
+
+  pub pair_past : Past l → Past (reads l r)
+  pair_past first s at h = rw (is, parts_past mark l r first s at h) refl
+
 module _ {R : Type 0} (slot : ℕ) where
   pub put_as : (set set' : R → Bool) (before after : ℕ → R → Bool) → set ≡ set' → Put slot set' before after → Put slot set before after
   put_as set set' before after is put j l x = put j l x ∙ ap (λ (f : R → Bool). cond (j == slot) (f x) (before j x)) (sym is)
 
-  pub kept_put : (set : R → Bool) (before after : ℕ → R → Bool) → Put slot set before after → Kept slot before after
-  kept_put set before after put j l ne x = put j l x ∙ rw (ne_eqb j slot ne) refl
-
-  -- what was written in part and then emptied
-  pub emptied : (set : R → Bool) (before middle after : ℕ → R → Bool) → (slot < 32 → (x : R) → set x ≡ false) → Kept slot before middle → Put slot nothing middle after → Put slot set before after
-  emptied set before middle after none kept put j l x = go (cases_eq j slot)
-    where
-      go : (j ≡ slot) ⊎ (j ≢ slot) → after j x ≡ cond (j == slot) (set x) (before j x)
-      go (inl same) = put j l x ∙ rw (eq-eqb j slot same) (sym (none (omega arith) x))
-      go (inr other) = put j l x ∙ rw (ne_eqb j slot other) (kept j l other x)
-
-module _ {L R : Type 0} (slot at : ℕ) (p : Result (Parts L R × ℕ) Refusal) (x : Refusal) (is : Err x ≡ end_of slot at p) where
-  pub left_none : slot < 32 → (y : L) → left_of p y ≡ false
-  left_none few y = rw (not_written slot at p x is few) refl
-
-  pub right_none : slot < 32 → (y : R) → right_of p y ≡ false
-  right_none few y = rw (not_written slot at p x is few) refl
-
 module _ {L R V : Type 0} (join : Joins L R V) where
-  pub end_joined : (slot at : ℕ) (p : Result (Parts L R × ℕ) Refusal) → end_of slot at p ≡ end_of slot at (p then (λ v. Ok (join v.0.left v.0.right, v.1)))
-  end_joined slot at (Ok v) = refl
-  end_joined slot at (Err x) = refl
+  set_joined : ((x : V) → join nothing nothing x ≡ false) → (p : Result (Parts L R × ℕ) Refusal) (x : V) → join (left_of p) (right_of p) x ≡ set_of (p then (λ v. Ok (join v.0.left v.0.right, v.1))) x
+  set_joined empty (Ok v) x = refl
+  set_joined empty (Err e) x = empty x
 
-  joined : (empty : (x : V) → join nothing nothing x ≡ false) (here : Bool) (p : Result (Parts L R × ℕ) Refusal) (l : L → Bool) (r : R → Bool) (x : V)
-      → join (λ y. cond here (left_of p y) (l y)) (λ y. cond here (right_of p y) (r y)) x ≡ cond here (set_of (p then (λ v. Ok (join v.0.left v.0.right, v.1))) x) (join l r x)
-  joined empty true (Ok v) l r x = refl
-  joined empty true (Err e) l r x = empty x
-  joined empty false p l r x = refl
+  joined : (here : Bool) (a : L → Bool) (b : R → Bool) (set : V → Bool) (l : L → Bool) (r : R → Bool) (x : V) → join a b x ≡ set x
+      → join (λ y. cond here (a y) (l y)) (λ y. cond here (b y) (r y)) x ≡ cond here (set x) (join l r x)
+  joined true a b set l r x is = is
+  joined false a b set l r x is = refl
 
-  -- where each part has its set, the whole has what the two make together
-  pub put_joined : (empty : (x : V) → join nothing nothing x ≡ false) (slot : ℕ) (p : Result (Parts L R × ℕ) Refusal) (l l' : ℕ → L → Bool) (r r' : ℕ → R → Bool)
-      → Put slot (left_of p) l l' → Put slot (right_of p) r r' → Put slot (set_of (p then (λ v. Ok (join v.0.left v.0.right, v.1)))) (λ j. join (l j) (r j)) (λ j. join (l' j) (r' j))
-  put_joined empty slot p l l' r r' a b j few x =
-      let f : l' j ≡ (λ y. cond (j == slot) (left_of p y) (l j y)) = λ i y. a j few y i in
-      let g : r' j ≡ (λ y. cond (j == slot) (right_of p y) (r j y)) = λ i y. b j few y i in
-      ap (λ (h : L → Bool). join h (r' j) x) f ∙ ap (λ (h : R → Bool). join (λ y. cond (j == slot) (left_of p y) (l j y)) h x) g ∙ joined empty (j == slot) p (l j) (r j) x
+  module _ (slot : ℕ) (l l' : ℕ → L → Bool) (r r' : ℕ → R → Bool) where
+    -- where each part has its set, the whole has what the two make together
+    pub put_both : (a : L → Bool) (b : R → Bool) (set : V → Bool) → ((x : V) → join a b x ≡ set x) → Put slot a l l' → Put slot b r r' → Put slot set (λ j. join (l j) (r j)) (λ j. join (l' j) (r' j))
+    put_both a b set is p q j few x =
+        let f : l' j ≡ (λ y. cond (j == slot) (a y) (l j y)) = λ i y. p j few y i in
+        let g : r' j ≡ (λ y. cond (j == slot) (b y) (r j y)) = λ i y. q j few y i in
+        ap (λ (h : L → Bool). join h (r' j) x) f ∙ ap (λ (h : R → Bool). join (λ y. cond (j == slot) (a y) (l j y)) h x) g ∙ joined (j == slot) a b set (l j) (r j) x (is x)
+
+    -- the same where both sets are read from a text
+    pub put_joined : ((x : V) → join nothing nothing x ≡ false) → (p : Result (Parts L R × ℕ) Refusal)
+        → Put slot (left_of p) l l' → Put slot (right_of p) r r' → Put slot (set_of (p then (λ v. Ok (join v.0.left v.0.right, v.1)))) (λ j. join (l j) (r j)) (λ j. join (l' j) (r' j))
+    put_joined empty p = put_both (left_of p) (right_of p) (set_of (p then (λ v. Ok (join v.0.left v.0.right, v.1)))) (set_joined empty p)

@@ -38,6 +38,7 @@ put_codes old new slot inside set a b marked low high j l x = go (cases_lt x 256
         grind (arith, nat_tests)
 
 -- the same with the set of no code
-pub emptied_codes : (old new : List ℕ) (slot : ℕ) → length old ≡ 256 → length new ≡ 256
-    → ((c : ℕ) → c < 256 → (j : ℕ) → bit (slice_index new c) j ≡ cond (j == slot) (slice_index_or (replicate 256 false) c false) (bit (slice_index old c) j)) → Put slot nothing (held old) (held new)
-emptied_codes old new slot a b marked = put_codes old new slot (replicate 256 false) nothing a b marked (λ k l. get_or_replicate_same 256 false k) (λ k l. refl)
+pub emptied_codes : (old new : List ℕ) (slot : ℕ) (none : List Bool) → length old ≡ 256 → length new ≡ 256
+    → ((c : ℕ) → c < 256 → (j : ℕ) → bit (slice_index new c) j ≡ cond (j == slot) (slice_index_or none c false) (bit (slice_index old c) j))
+    → ((c : ℕ) → slice_index_or none c false ≡ false) → Put slot nothing (held old) (held new)
+emptied_codes old new slot none a b marked empty = put_codes old new slot none nothing a b marked (λ k l. empty k) (λ k l. refl)

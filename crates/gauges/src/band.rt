@@ -4,6 +4,7 @@ ghost use Rattle.gauges.specs.Currents.{within, band_at};
 
 use text::mark::{Mark, marked};
 use text::number::read_number;
+use text::parsed::Parsed;
 use text::refusal::Refusal;
 use text::signed::read_signed;
 
@@ -27,22 +28,15 @@ impl Band {
     }
 }
 
-/// A band as it was read, and the place behind it.
-#[derive(Clone, Copy)]
-pub struct ReadBand {
-    pub band: Band,
-    pub end: usize,
-}
-
 /// A target, and behind a `~` a tolerance; without one the tolerance is 0.
-pub fn read_band(text: &[u8], at: usize) -> Result<ReadBand, Refusal>
+pub fn read_band(text: &[u8], at: usize) -> Result<Parsed<Band>, Refusal>
     ensures value { result ≡ band_at text.now at }
     ensures bound { IfOk result (λ b. (at < b.end) × (b.end ≤ length text.now)) }
 {
     let target = read_signed(text, at)?;
     if !marked(text, target.end, Mark::Tilde) {
-        return Ok(ReadBand {
-            band: Band {
+        return Ok(Parsed {
+            value: Band {
                 target: target.value,
                 tolerance: 0,
             },
@@ -50,8 +44,8 @@ pub fn read_band(text: &[u8], at: usize) -> Result<ReadBand, Refusal>
         });
     }
     let tolerance = read_number(text, target.end + 1, WIDEST)?;
-    Ok(ReadBand {
-        band: Band {
+    Ok(Parsed {
+        value: Band {
             target: target.value,
             tolerance: tolerance.value as u16,
         },

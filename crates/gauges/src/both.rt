@@ -1,63 +1,39 @@
 //! A layer over two gauges: a slot holds what both hold.
-ghost use Rattle.std.specs.Prelude.{◌≡◌};
+ghost use Rattle.std.specs.Prelude.{refl};
+ghost use Rattle.text.specs.declared.mark.Mark.TheVariants.{And};
 ghost use Rattle.gauges.specs.Pairs.{meet, both_at};
-ghost use Rattle.gauges.specs.PairsLemmas.{pair_within, pair_past};
 
-use crate::pair::{empty_pair, write_pair};
-use signature::gauge::{Gauge, WrittenGauge};
+use crate::pair::{Joint, Pair};
+use signature::gauge::Gauge;
 use text::mark::Mark;
-use text::refusal::Refusal;
 
-/// Two gauges of one kind of reading.
-#[derive(Drop)]
-pub struct Both<L, R> {
-    left: L,
-    right: R,
-}
+/// Two gauges of one kind of reading, `&` between their texts.
+pub type Both<L, R> = Pair<L, R, Meet>;
 
-impl<L, R> Both<L, R>
-where
-    L: Gauge,
-    R: Gauge<Reading = L::Reading>,
-{
-    /// The layer over two gauges as they are.
-    pub fn new(left: L, right: R) -> Both<L, R>
-        ensures { (result.left ≡ left) × (result.right ≡ right) }
+/// What the left and the right both hold.
+pub struct Meet;
+
+impl<X> Joint<X, X> for Meet {
+    type Reading = X;
+
+    ghost join = { meet };
+
+    ghost reads = { both_at };
+
+    ghost MARK = { And };
+
+    const MARK: Mark = Mark::And;
+
+    #[tactic(auto, using(crate::proofs::Words::bit_of_and))]
+    fn try_both<L, R>(left: &L, right: &R, reading: &X) -> u32
+    where
+        L: Gauge<Reading = X>,
+        R: Gauge<Reading = X>,
     {
-        Both { left, right }
-    }
-}
-
-impl<L, R> Gauge for Both<L, R>
-where
-    L: Gauge,
-    R: Gauge<Reading = L::Reading>,
-{
-    type Reading = L::Reading;
-
-    ghost sets = { λ g j. meet (L.Gauge.sets g.left j) (R.Gauge.sets g.right j) };
-
-    fn try_reading(&self, reading: &L::Reading) -> u32 {
-        self.left.try_reading(reading) & self.right.try_reading(reading)
+        left.try_reading(reading) & right.try_reading(reading)
     }
 
-    fn empty_slot(&mut self, slot: u32) {
-        empty_pair(&mut self.left, &mut self.right, slot);
-    }
-}
+    ghost empty = { λ x. refl };
 
-impl<L, R> WrittenGauge for Both<L, R>
-where
-    L: WrittenGauge,
-    R: WrittenGauge<Reading = L::Reading>,
-{
-    ghost reads = { both_at L.WrittenGauge.reads R.WrittenGauge.reads };
-
-    ghost within = { pair_within _ _ _ _ L.WrittenGauge.within R.WrittenGauge.within };
-
-    ghost past = { pair_past _ _ _ _ L.WrittenGauge.past };
-
-    fn write_slot(&mut self, slot: u32, text: &[u8], at: usize) -> Result<usize, Refusal> {
-        write_pair(&mut self.left, &mut self.right, Mark::And, slot, text, at)
-    }
+    ghost spelled = { refl };
 }

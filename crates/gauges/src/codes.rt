@@ -1,122 +1,134 @@
 //! The text of a slot of event codes: a code, or members in brackets.
-ghost use Rattle.std.specs.Prelude.{◌≡◌, ℕ, ◌+◌, ◌<◌, ◌≤◌, Bool, true, false, not, ◌||◌, length, IfOk, slice_index, slice_index_or};
+ghost use Rattle.std.specs.Prelude.{◌≡◌, ℕ, ◌+◌, ◌<◌, ◌≤◌, Bool, false, not, ◌||◌, length, IfOk, slice_index_or};
 ghost use Rattle.text.specs.declared.mark.Mark.{Mark};
-ghost use Rattle.gauges.specs.Codes.{member_at, covers, covers_any, members_at, slot_at, holds, behind};
+ghost use Rattle.gauges.specs.Codes.{member_at, covers, covers_any, members_at, slot_at, holds, behind, ended};
 ghost use Rattle.gauges.specs.Grammar.{ReadsSlot};
 
 use text::mark::{Mark, marked, take_mark};
 use text::number::read_number;
+use text::parsed::Parsed;
 use text::refusal::{Layer, Refusal};
 
 /// The greatest event code.
 const LAST: u32 = 255;
 
-/// The codes from `low` to `high`, both counted, and the place behind the member.
+/// The codes from `low` to `high`, both counted.
 #[derive(Clone, Copy)]
 pub struct Member {
-    pub low: u32,
-    pub high: u32,
-    pub end: usize,
+    pub low: u8,
+    pub high: u8,
 }
 
 /// A member: a code, or two codes with `:` between, the first no greater.
-pub fn read_member(text: &[u8], at: usize) -> Result<Member, Refusal>
+pub fn read_member(text: &[u8], at: usize) -> Result<Parsed<Member>, Refusal>
     ensures value { result ≡ member_at text.now at }
-    ensures bound { IfOk result (λ m. (m.high < 256) × (m.low ≤ m.high) × (at < m.end) × (m.end ≤ length text.now)) }
+    ensures bound { IfOk result (λ m. (m.value.high < 256) × (m.value.low ≤ m.value.high) × (at < m.end) × (m.end ≤ length text.now)) }
 {
     let first = read_number(text, at, LAST)?;
+    let low = first.value as u8;
     if !marked(text, first.end, Mark::Colon) {
-        return Ok(Member {
-            low: first.value,
-            high: first.value,
+        return Ok(Parsed {
+            value: Member { low, high: low },
             end: first.end,
         });
     }
     let last = read_number(text, first.end + 1, LAST)?;
-    if first.value > last.value {
+    let high = last.value as u8;
+    if low > high {
         return Err(Refusal::Backward {
             layer: Layer::Slot,
             place: at,
         });
     }
-    Ok(Member {
-        low: first.value,
-        high: last.value,
+    Ok(Parsed {
+        value: Member { low, high },
         end: last.end,
     })
 }
 
-// Puts each code of the member into the set.
-fn put_member(inside: &mut [bool], member: Member)
-    requires { (length inside.old ≡ 256) × ((member.low ≤ member.high) × (member.high < 256)) }
-    ensures { (c : ℕ) → slice_index_or inside.new c false ≡ (slice_index_or inside.old c false || covers member c) }
-{
-    for code in member.low..member.high + 1 {
-        inside[code as usize] = true;
+/// A set of event codes.
+#[derive(Clone, Copy)]
+pub struct Codes {
+    has: [bool; 256],
+}
+
+impl Codes {
+    /// The set of no code.
+    pub fn new() -> Codes
+        ensures { (c : ℕ) → slice_index_or result.has c false ≡ false }
+    {
+        Codes { has: [false; 256] }
+    }
+
+    /// Whether the code is in the set.
+    pub fn has(&self, code: u8) -> bool
+        ensures { result ≡ slice_index_or self.now.has code false }
+    {
+        self.has[usize::from(code)]
+    }
+
+    // Puts each code of the member into the set.
+    fn put_member(&mut self, member: Member)
+        requires { member.low ≤ member.high }
+        ensures { (c : ℕ) → slice_index_or self.new.has c false ≡ (slice_index_or self.old.has c false || covers member c) }
+    {
+        self.has[usize::from(member.low)..=usize::from(member.high)].fill(true);
+    }
+
+    // Takes out what is in, and puts in what is not.
+    fn turn(&mut self)
+        ensures { (c : ℕ) → c < 256 → slice_index_or self.new.has c false ≡ not (slice_index_or self.old.has c false) }
+    {
+        for has in self.has.iter_mut() {
+            *has = !*has;
+        }
     }
 }
 
-// Puts the members up to the closing mark into the set, one space between two.
-fn read_members(text: &[u8], at: usize, close: Mark, inside: &mut [bool]) -> Result<usize, Refusal>
-    requires { (at ≤ length text.now) × (length inside.old ≡ 256) }
-    ensures value { result ≡ behind (members_at close text.now at) }
-    ensures marked { IfOk (members_at close text.now at) (λ ms. (c : ℕ) → slice_index_or inside.new c false ≡ (slice_index_or inside.old c false || covers_any ms.0 c)) }
-    ensures bound { IfOk result (λ e. (at < e) × (e ≤ length text.now)) }
+// Reads the members up to the closing mark, one space between two.
+fn read_members(text: &[u8], at: usize, close: Mark) -> Result<Parsed<Codes>, Refusal>
+    requires { at ≤ length text.now }
+    ensures value { ended result ≡ behind (members_at close text.now at) }
+    ensures codes { IfOk result (λ r. IfOk (members_at close text.now at) (λ ms. (c : ℕ) → slice_index_or r.value.has c false ≡ covers_any ms.0 c)) }
+    ensures bound { IfOk result (λ r. (at < r.end) × (r.end ≤ length text.now)) }
 {
+    let mut codes = Codes::new();
     let mut place = at;
     loop {
         let member = read_member(text, place)?;
-        put_member(inside, member);
+        codes.put_member(member.value);
         if marked(text, member.end, close) {
-            return Ok(member.end + 1);
+            return Ok(Parsed {
+                value: codes,
+                end: member.end + 1,
+            });
         }
         place = take_mark(text, member.end, Mark::Space, Layer::Slot)?;
     }
 }
 
-// Takes out what is in, and puts in what is not.
-fn turn(inside: &mut [bool])
-    ensures { (c : ℕ) → c < length inside.old → slice_index_or inside.new c false ≡ not (slice_index_or inside.old c false) }
+// The codes of a slot's text.
+pub(crate) fn read_codes(text: &[u8], at: usize) -> Result<Parsed<Codes>, Refusal>
+    ensures value { ended result ≡ behind (slot_at text.now at) }
+    ensures codes { IfOk result (λ r. IfOk (slot_at text.now at) (λ v. (c : ℕ) → c < 256 → slice_index_or r.value.has c false ≡ holds v.0 c)) }
+    ensures grammar { ReadsSlot text.now at result }
 {
-    for has in inside.iter_mut() {
-        *has = !*has;
-    }
-}
-
-// The byte at the place, or 0 behind the text.
-fn byte_at(text: &[u8], at: usize) -> u8
-    ensures value { result ≡ slice_index text.now at }
-    ensures inside { 0 < result → at < length text.now }
-{
-    if at < text.len() { text[at] } else { 0 }
-}
-
-// Reads a slot's text into a set that is empty.
-pub(crate) fn read_codes(text: &[u8], at: usize, inside: &mut [bool]) -> Result<usize, Refusal>
-    requires long { length inside.old ≡ 256 }
-    requires empty { (c : ℕ) → slice_index_or inside.old c false ≡ false }
-    ensures value { result ≡ behind (slot_at text.now at) }
-    ensures codes { IfOk (slot_at text.now at) (λ v. (c : ℕ) → c < 256 → slice_index_or inside.new c false ≡ holds v.0 c) }
-    ensures grammar { ReadsSlot text.now at result inside.new }
-{
-    match char::from(byte_at(text, at)) {
-        '[' => read_members(text, at + 1, Mark::ClassClose, inside),
-        '{' => {
-            let end = read_members(text, at + 1, Mark::BarredClose, inside)?;
-            turn(inside);
-            Ok(end)
+    match text.get(at).copied().map(char::from) {
+        Some('[') => read_members(text, at + 1, Mark::ClassClose),
+        Some('{') => {
+            let mut read = read_members(text, at + 1, Mark::BarredClose)?;
+            read.value.turn();
+            Ok(read)
         }
         _ => {
             let code = read_number(text, at, LAST)?;
-            put_member(
-                inside,
-                Member {
-                    low: code.value,
-                    high: code.value,
-                    end: code.end,
-                },
-            );
-            Ok(code.end)
+            let low = code.value as u8;
+            let mut codes = Codes::new();
+            codes.put_member(Member { low, high: low });
+            Ok(Parsed {
+                value: codes,
+                end: code.end,
+            })
         }
     }
 }

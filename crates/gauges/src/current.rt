@@ -24,16 +24,6 @@ impl Current {
     }
 }
 
-// Whether the slot with this band takes the reading.
-fn takes(band: Option<Band>, reading: i32) -> bool
-    ensures { result ≡ held_by band reading }
-{
-    match band {
-        Some(band) => band.holds(reading),
-        None => false,
-    }
-}
-
 impl Gauge for Current {
     type Reading = i32;
 
@@ -41,8 +31,9 @@ impl Gauge for Current {
 
     fn try_reading(&self, reading: &i32) -> u32 {
         let mut word = 0;
-        for slot in 0..32u32 {
-            word = with_bit(word, slot, takes(self.bands[slot as usize], *reading));
+        for (slot, band) in self.bands.iter().enumerate() {
+            let on = band.is_some_and(|band| band.holds(*reading));
+            word = with_bit(word, slot as u32, on);
         }
         word
     }
@@ -68,15 +59,9 @@ impl WrittenGauge for Current {
                 place: at,
             });
         }
-        match read_band(text, at) {
-            Ok(read) => {
-                self.bands[slot as usize] = Some(read.band);
-                Ok(read.end)
-            }
-            Err(refusal) => {
-                self.bands[slot as usize] = None;
-                Err(refusal)
-            }
-        }
+        // As in `Event`, but for how a set is kept: a trait for the two would be longer than these three lines.
+        let read = read_band(text, at);
+        self.bands[slot as usize] = read.ok().map(|read| read.value);
+        Ok(read?.end)
     }
 }

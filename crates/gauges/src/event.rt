@@ -5,7 +5,7 @@ ghost use Rattle.gauges.specs.Codes.{event_at};
 ghost use Rattle.gauges.specs.Tables.{held};
 ghost use Rattle.gauges.specs.Ends.{event_within, event_past};
 
-use crate::codes::read_codes;
+use crate::codes::{Codes, read_codes};
 use signature::gauge::{Gauge, WrittenGauge};
 use text::refusal::{Layer, Refusal};
 
@@ -23,35 +23,28 @@ impl Event {
     {
         Event { table: [0; 256] }
     }
-}
 
-// Whether the slot's bit is on.
-fn is_on(entry: u32, slot: u32) -> bool
-    requires { slot < 32 }
-    ensures { result ≡ bit entry slot }
-{
-    (entry >> slot) & 1 == 1
+    // Sets the slot's bit at each code of the set, and clears it at each other.
+    fn mark_codes(&mut self, slot: u32, codes: &Codes)
+        requires { slot < 32 }
+        ensures { (c : ℕ) → c < 256 → (j : ℕ) → bit (slice_index self.new.table c) j ≡ (if nat_eq j slot then slice_index_or codes.now.has c false else bit (slice_index self.old.table c) j) }
+    {
+        for (code, entry) in self.table.iter_mut().enumerate() {
+            *entry = with_bit(*entry, slot, codes.has(code as u8));
+        }
+    }
 }
 
 // The entry with the slot's bit on or off.
+#[tactic(auto, using(crate::proofs::Words::bit_set, crate::proofs::Words::bit_cleared))]
 pub(crate) fn with_bit(entry: u32, slot: u32, on: bool) -> u32
     requires { slot < 32 }
     ensures { (j : ℕ) → bit result j ≡ (if nat_eq j slot then on else bit entry j) }
 {
-    if is_on(entry, slot) == on {
-        entry
+    if on {
+        entry | (1 << slot)
     } else {
-        entry ^ (1 << slot)
-    }
-}
-
-// Sets the slot's bit at each code of the set, and clears it at each other.
-fn mark_codes(table: &mut [u32], slot: u32, inside: &[bool])
-    requires { (length table.old ≡ 256) × ((length inside.now ≡ 256) × (slot < 32)) }
-    ensures { (c : ℕ) → c < 256 → (j : ℕ) → bit (slice_index table.new c) j ≡ (if nat_eq j slot then slice_index_or inside.now c false else bit (slice_index table.old c) j) }
-{
-    for code in 0..256usize {
-        table[code] = with_bit(table[code], slot, inside[code]);
+        entry & !(1 << slot)
     }
 }
 
@@ -67,7 +60,7 @@ impl Gauge for Event {
     #[tactic(auto, using(crate::specs::TablesLemmas::emptied_codes))]
     fn empty_slot(&mut self, slot: u32) {
         if slot < 32 {
-            mark_codes(&mut self.table, slot, &[false; 256]);
+            self.mark_codes(slot, &Codes::new());
         }
     }
 }
@@ -86,16 +79,9 @@ impl WrittenGauge for Event {
                 place: at,
             });
         }
-        let mut inside = [false; 256];
-        match read_codes(text, at, &mut inside) {
-            Ok(end) => {
-                mark_codes(&mut self.table, slot, &inside);
-                Ok(end)
-            }
-            Err(refusal) => {
-                mark_codes(&mut self.table, slot, &[false; 256]);
-                Err(refusal)
-            }
-        }
+        // As in `Current`, but for how a set is kept: a trait for the two would be longer than these three lines.
+        let read = read_codes(text, at);
+        self.mark_codes(slot, &read.map_or(Codes::new(), |read| read.value));
+        Ok(read?.end)
     }
 }

@@ -1,18 +1,19 @@
-use Rattle.std.proofs.Common.{rules}
+use Rattle.std.proofs.Common.{rules, arith}
+use Rattle.std.proofs.lemmas.Grind.{common_steps}
 use Rattle.gauges.proofs.Derived.{reads_slot}
 use Rattle.gauges.proofs.codes.read_codes.Goals as goal
 
-pub returns-in_err-end-in-123 : goal.returns-in_err-end-in-123
-returns-in_err-end-in-123 c = search (rules, reads_slot)
+pub returns-in_err-read-in-Some-eq123-clause-grammar : goal.returns-in_err-read-in-Some-eq123-clause-grammar
+returns-in_err-read-in-Some-eq123-clause-grammar c = search (rules, reads_slot)
 
-pub returns-in_err-code-in_default : goal.returns-in_err-code-in_default
-returns-in_err-code-in_default c = search (rules, reads_slot)
+pub returns-in_err-code-in_default-clause-grammar : goal.returns-in_err-code-in_default-clause-grammar
+returns-in_err-code-in_default-clause-grammar c = reads_slot _ _ _ (grind (arith, common_steps)) (grind (arith, common_steps))
 
-pub returns-in-91 : goal.returns-in-91
-returns-in-91 c = search (rules, reads_slot)
+pub returns-in-Some-eq91-clause-grammar : goal.returns-in-Some-eq91-clause-grammar
+returns-in-Some-eq91-clause-grammar c = search (rules, reads_slot)
 
-pub returns-in_ok-end-in-123 : goal.returns-in_ok-end-in-123
-returns-in_ok-end-in-123 c = search (rules, reads_slot)
+pub returns-in_ok-read-in-Some-eq123-clause-grammar : goal.returns-in_ok-read-in-Some-eq123-clause-grammar
+returns-in_ok-read-in-Some-eq123-clause-grammar c = search (rules, reads_slot)
 
-pub returns-in_ok-code-in_default : goal.returns-in_ok-code-in_default
-returns-in_ok-code-in_default c = search (rules, reads_slot)
+pub returns-in_ok-code-in_default-clause-grammar : goal.returns-in_ok-code-in_default-clause-grammar
+returns-in_ok-code-in_default-clause-grammar c = reads_slot _ _ _ (grind (arith, common_steps)) (grind (arith, common_steps))

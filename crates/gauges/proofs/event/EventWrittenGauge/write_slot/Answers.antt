@@ -1,32 +1,33 @@
-use Rattle.std.proofs.Common.{false, replicate, sym, refl, ◌∙◌, rules}
+use Rattle.std.proofs.Common.{◌≡◌, false, get_or, sym, ap, ◌∙◌, rules}
+use Rattle.std.proofs.lemmas.Result.{err_from_is_err_and}
 use Rattle.signature.specs.Slots.{set_of}
 use Rattle.gauges.specs.Codes.{event_at}
-use Rattle.gauges.specs.TablesLemmas.{put_codes, get_or_replicate_same}
+use Rattle.gauges.specs.TablesLemmas.{put_codes}
 use Rattle.gauges.proofs.Events.{event_end, event_low, event_high, event_none}
 use Rattle.gauges.proofs.event.EventWrittenGauge.write_slot.Goals as goal
 
-pub read_codes-requires : goal.read_codes-requires
-read_codes-requires c = record { long = refl; empty = get_or_replicate_same 256 false }
-
-pub returns-in-Ok : goal.returns-in-Ok
-returns-in-Ok c =
+pub returns-in_err-read : goal.returns-in_err-read
+returns-in_err-read c =
     let s = c.args.text.now in
     let at = c.args.at in
-    let told = c.in-Ok.ensures in
-    record {
-      value = told.value ∙ event_end s at c.args.slot c.if-slot-ge32.false;
-      wrote = put_codes c.args.self.now.table c.mark_codes.new.table c.args.slot c.read_codes.new.inside (set_of (event_at s at)) (search rules) (search rules) c.mark_codes.ensures
-          (event_low s at _ _ told.value told.codes) (event_high s at);
-    }
-
-pub returns-in-Err : goal.returns-in-Err
-returns-in-Err c =
-    let s = c.args.text.now in
-    let at = c.args.at in
-    let told = c.in-Err.ensures in
+    let told = c.in_err-read.ensures in
+    let p = err_from_is_err_and c.from_residual.result c.from_residual.ensures.1 in
     let none = event_none s at _ told.value in
+    let is : c.map_or.result ≡ c.new.result = search rules in
+    rw (p.1, p.2) (record {
+      value = told.value ∙ event_end s at c.args.slot c.if-slot-ge32.false;
+      wrote = put_codes c.args.self.now.table c.mark_codes.new.self.table c.args.slot c.map_or.result.has (set_of (event_at s at)) (search rules) (search rules) c.mark_codes.ensures
+          (λ k l. ap (λ r. get_or r.has k false) is ∙ c.new.ensures k ∙ sym (none k)) (λ k l. none k);
+    })
+
+pub returns : goal.returns
+returns c =
+    let s = c.args.text.now in
+    let at = c.args.at in
+    let told = c.in_ok-read.ensures in
+    let is : c.map_or.result ≡ c.in_ok-read.field-0.value = search rules in
     record {
       value = told.value ∙ event_end s at c.args.slot c.if-slot-ge32.false;
-      wrote = put_codes c.args.self.now.table c.mark_codes-in-Err.new.table c.args.slot (replicate 256 false) (set_of (event_at s at)) (search rules) (search rules) c.mark_codes-in-Err.ensures
-          (λ k l. get_or_replicate_same 256 false k ∙ sym (none k)) (λ k l. none k);
+      wrote = put_codes c.args.self.now.table c.mark_codes.new.self.table c.args.slot c.map_or.result.has (set_of (event_at s at)) (search rules) (search rules) c.mark_codes.ensures
+          (λ k l. ap (λ r. get_or r.has k false) is ∙ event_low s at _ _ told.value told.codes k l) (event_high s at);
     }

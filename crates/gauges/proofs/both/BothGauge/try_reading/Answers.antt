@@ -1,9 +1,0 @@
-use Rattle.std.proofs.Common.{◌∙◌}
-use Rattle.gauges.proofs.Joined.{bit_of_and}
-use Rattle.gauges.proofs.both.BothGauge.try_reading.Goals as goal
-
-pub returns : goal.returns
-returns g c j l =
-    let left = c.try_reading.ensures j l in
-    let right = c.try_reading-2.ensures j l in
-    bit_of_and _ _ j ∙ (cc)
