@@ -5,10 +5,8 @@ ghost use Rattle.engines.specs.Masked.{masks_say};
 ghost use Rattle.engines.specs.Memory.{Stepped, Moved};
 
 use crate::engine::Engine;
-use crate::shape::gap_at;
 use crate::strips::mark_strips;
 use crate::windows::Windows;
-use runs::gap::Gap;
 use runs::signature::Signature;
 
 /// Bit d of `masks[j]` says whether a run of the first j + 1 slots ended d places before the latest: it takes every signature.
@@ -61,15 +59,11 @@ impl Masks {
 impl Engine for Masks {
     const LIMIT: u32 = 1985;
 
-    ghost limit = { 1985 };
+    ghost LIMIT = { 1985 };
 
     ghost shape = { λ e. e.windows.signature };
 
     ghost says = { λ e. masks_say e.masks };
-
-    fn greatest() -> u32 {
-        Self::LIMIT
-    }
 
     fn make(&mut self, signature: &Signature) {
         *self = Masks {
@@ -87,8 +81,8 @@ impl Engine for Masks {
     fn stretch(&mut self, words: &mut [u32]) {
         let signature = self.windows.signature;
         let done = mark_strips(&signature, &mut self.masks, words);
-        for i in done..words.len() {
-            words[i] = self.step(words[i]);
+        for word in &mut words[done..] {
+            *word = self.step(*word);
         }
     }
 
@@ -100,11 +94,7 @@ impl Engine for Masks {
         }
     }
 
-    fn slots(&self) -> u32 {
-        self.windows.signature.slots
-    }
-
-    fn gap(&self, j: u32) -> Gap {
-        gap_at(&self.windows.signature, j)
+    fn signature(&self) -> Signature {
+        self.windows.signature
     }
 }

@@ -7,7 +7,6 @@ ghost use Rattle.engines.specs.Memory.{Seen, Stepped, Moved};
 
 use crate::engine::Engine;
 use crate::shape::{gap_at, later_slots};
-use runs::gap::Gap;
 use runs::signature::Signature;
 
 /// The words stand one after another, and go on at the beginning: it takes every signature.
@@ -84,15 +83,11 @@ impl Ring {
 impl Engine for Ring {
     const LIMIT: u32 = 1985;
 
-    ghost limit = { 1985 };
+    ghost LIMIT = { 1985 };
 
     ghost shape = { λ e. e.signature };
 
     ghost says = { λ e. past_says e.past e.next };
-
-    fn greatest() -> u32 {
-        Self::LIMIT
-    }
 
     fn make(&mut self, signature: &Signature) {
         *self = Ring {
@@ -119,11 +114,7 @@ impl Engine for Ring {
         self.next = recent.len() % 64;
     }
 
-    fn slots(&self) -> u32 {
-        self.signature.slots
-    }
-
-    fn gap(&self, j: u32) -> Gap {
-        gap_at(&self.signature, j)
+    fn signature(&self) -> Signature {
+        self.signature
     }
 }

@@ -6,8 +6,6 @@ ghost use Rattle.engines.specs.Memory.{Moved};
 
 use crate::engine::Engine;
 use crate::layout::Layout;
-use crate::shape::gap_at;
-use runs::gap::Gap;
 use runs::signature::Signature;
 
 /// For each gap one field of bits: it takes signatures that reach 64 places at most.
@@ -45,15 +43,11 @@ impl Word {
 impl Engine for Word {
     const LIMIT: u32 = 64;
 
-    ghost limit = { 64 };
+    ghost LIMIT = { 64 };
 
     ghost shape = { λ e. e.layout.signature };
 
     ghost says = { λ e. fields_say (gaps_of e.layout.signature) e.memory };
-
-    fn greatest() -> u32 {
-        Self::LIMIT
-    }
 
     fn make(&mut self, signature: &Signature) {
         *self = Word {
@@ -86,11 +80,7 @@ impl Engine for Word {
         }
     }
 
-    fn slots(&self) -> u32 {
-        self.layout.signature.slots
-    }
-
-    fn gap(&self, j: u32) -> Gap {
-        gap_at(&self.layout.signature, j)
+    fn signature(&self) -> Signature {
+        self.layout.signature
     }
 }
