@@ -1,8 +1,8 @@
 //! The engine that keeps one mask of 64 places for each slot.
-ghost use Rattle.std.specs.Prelude.{◌≡◌, ℕ, false};
+ghost use Rattle.std.specs.Prelude.{◌≡◌, ℕ, suc, ◌<◌, false, Decides};
 ghost use Rattle.runs.specs.Signatures.{Blank};
 ghost use Rattle.engines.specs.Masked.{masks_say};
-ghost use Rattle.engines.specs.Memory.{Stepped, Moved};
+ghost use Rattle.engines.specs.Memory.{Seen, Stepped, Moved};
 
 use crate::engine::Engine;
 use crate::strips::mark_strips;
@@ -19,7 +19,7 @@ pub struct Masks {
 impl Masks {
     /// An engine with no slots.
     pub fn new() -> Masks
-        ensures shape { Blank result.windows.signature }
+        ensures shape { Blank result.windows.shape.signature }
         ensures memory { (j d : ℕ) → masks_say result.masks j d ≡ false }
     {
         let masks = [0; 31];
@@ -29,28 +29,27 @@ impl Masks {
         }
     }
 
+    // Whether the memory says yes for slot j at a distance that gap j allows.
+    fn seen(&self, j: u32) -> bool
+        requires { suc j < self.now.windows.shape.signature.slots }
+        ensures { Decides result (Seen self.now.windows.shape.signature (masks_say self.now.masks) j) }
+    {
+        self.masks[j as usize] & self.windows.allowed[j as usize] != 0
+    }
+
     // The mark word of the next place.
     fn word(&self, fits: u32) -> u32
-        ensures { Stepped self.now.windows.signature (masks_say self.now.masks) fits result }
+        ensures { Stepped self.now.windows.shape.signature (masks_say self.now.masks) fits result }
     {
-        let mut word = fits & 1;
-        let mut left = fits & self.windows.later;
-        while left != 0 {
-            let j = left.trailing_zeros() as usize;
-            left &= left - 1;
-            if self.masks[j - 1] & self.windows.allowed[j - 1] != 0 {
-                word |= 1 << j;
-            }
-        }
-        word
+        self.windows.shape.word(fits, |j| self.seen(j))
     }
 
     // Each mask moves by one place, and takes its bit of `word`.
     fn push(&mut self, word: u32)
         ensures windows { self.new.windows ≡ self.old.windows }
-        ensures memory { Moved self.old.windows.signature (masks_say self.old.masks) word (masks_say self.new.masks) }
+        ensures memory { Moved self.old.windows.shape.signature (masks_say self.old.masks) word (masks_say self.new.masks) }
     {
-        for j in 0..self.windows.signature.used_gaps().len() {
+        for j in 0..self.windows.shape.signature.used_gaps().len() {
             self.masks[j] = (self.masks[j] << 1) | ((word >> j) & 1) as u64;
         }
     }
@@ -61,7 +60,7 @@ impl Engine for Masks {
 
     ghost LIMIT = { 1985 };
 
-    ghost shape = { λ e. e.windows.signature };
+    ghost shape = { λ e. e.windows.shape.signature };
 
     ghost says = { λ e. masks_say e.masks };
 
@@ -79,7 +78,7 @@ impl Engine for Masks {
     }
 
     fn stretch(&mut self, words: &mut [u32]) {
-        let signature = self.windows.signature;
+        let signature = self.windows.shape.signature;
         let done = mark_strips(&signature, &mut self.masks, words);
         for word in &mut words[done..] {
             *word = self.step(*word);
@@ -95,6 +94,6 @@ impl Engine for Masks {
     }
 
     fn signature(&self) -> Signature {
-        self.windows.signature
+        self.windows.shape.signature
     }
 }

@@ -1,38 +1,32 @@
 //! The engine that keeps the last 64 words.
 ghost use Rattle.std.specs.Prelude.{◌≡◌, ℕ, suc, ◌-◌, ◌<◌, false, Decides};
 ghost use Rattle.runs.specs.Signatures.{Blank};
-ghost use Rattle.engines.specs.Blocks.{block};
 ghost use Rattle.engines.specs.Rings.{past_says};
 ghost use Rattle.engines.specs.Memory.{Seen, Stepped, Moved};
 
 use crate::engine::Engine;
-use crate::shape::{gap_at, later_slots};
+use crate::shape::{Shape, gap_at};
 use runs::signature::Signature;
 
 /// The words stand one after another, and go on at the beginning: it takes every signature.
 #[derive(Drop)]
 pub struct Ring {
-    signature: Signature,
-    // the bits of the slots after the first
-    later: u32,
+    shape: Shape,
     past: [u32; 64],
     // where the next word goes
     next: usize,
-    ghost after: { later ≡ block 1 (signature.slots - 1) },
     ghost inside: { next < 64 },
 }
 
 impl Ring {
     /// An engine with no slots.
     pub fn new() -> Ring
-        ensures shape { Blank result.signature }
+        ensures shape { Blank result.shape.signature }
         ensures memory { (j d : ℕ) → past_says result.past result.next j d ≡ false }
     {
-        let signature = Signature::new();
         let past = [0; 64];
         Ring {
-            signature,
-            later: later_slots(&signature),
+            shape: Shape::new(&Signature::new()),
             past,
             next: 0,
         }
@@ -40,11 +34,10 @@ impl Ring {
 
     // Whether the memory says yes for slot j at a distance that gap j allows.
     fn seen(&self, j: u32) -> bool
-        requires { suc j < self.now.signature.slots }
-        ensures { Decides result (Seen self.now.signature (past_says self.now.past self.now.next) j) }
+        requires { suc j < self.now.shape.signature.slots }
+        ensures { Decides result (Seen self.now.shape.signature (past_says self.now.past self.now.next) j) }
     {
-        let signature = &self.signature;
-        let gap = gap_at(signature, j);
+        let gap = gap_at(&self.shape.signature, j);
         for d in gap.lo..=gap.hi {
             let word = self.past[(self.next + 63 - d as usize) % 64];
             if (word >> j) & 1 == 1 {
@@ -56,24 +49,15 @@ impl Ring {
 
     // The mark word of the next place.
     fn word(&self, fits: u32) -> u32
-        ensures { Stepped self.now.signature (past_says self.now.past self.now.next) fits result }
+        ensures { Stepped self.now.shape.signature (past_says self.now.past self.now.next) fits result }
     {
-        let mut word = fits & 1;
-        let mut left = fits & self.later;
-        while left != 0 {
-            let j = left.trailing_zeros();
-            left &= left - 1;
-            if self.seen(j - 1) {
-                word |= 1 << j;
-            }
-        }
-        word
+        self.shape.word(fits, |j| self.seen(j))
     }
 
     // Each word moves one distance further, and `word` is the newest.
     fn push(&mut self, word: u32)
-        ensures signature { self.new.signature ≡ self.old.signature }
-        ensures memory { Moved self.old.signature (past_says self.old.past self.old.next) word (past_says self.new.past self.new.next) }
+        ensures shape { self.new.shape ≡ self.old.shape }
+        ensures memory { Moved self.old.shape.signature (past_says self.old.past self.old.next) word (past_says self.new.past self.new.next) }
     {
         self.past[self.next] = word;
         self.next = (self.next + 1) % 64;
@@ -85,14 +69,13 @@ impl Engine for Ring {
 
     ghost LIMIT = { 1985 };
 
-    ghost shape = { λ e. e.signature };
+    ghost shape = { λ e. e.shape.signature };
 
     ghost says = { λ e. past_says e.past e.next };
 
     fn make(&mut self, signature: &Signature) {
         *self = Ring {
-            signature: *signature,
-            later: later_slots(signature),
+            shape: Shape::new(signature),
             past: [0; 64],
             next: 0,
         };
@@ -115,6 +98,6 @@ impl Engine for Ring {
     }
 
     fn signature(&self) -> Signature {
-        self.signature
+        self.shape.signature
     }
 }

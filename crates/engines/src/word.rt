@@ -18,8 +18,8 @@ pub struct Word {
 impl Word {
     /// An engine with no slots.
     pub fn new() -> Word
-        ensures shape { Blank result.layout.signature }
-        ensures memory { (j d : ℕ) → fields_say (gaps_of result.layout.signature) result.memory j d ≡ false }
+        ensures shape { Blank result.layout.shape.signature }
+        ensures memory { (j d : ℕ) → fields_say (gaps_of result.layout.shape.signature) result.memory j d ≡ false }
     {
         let layout = Layout::new(&Signature::new());
         Word { layout, memory: 0 }
@@ -28,10 +28,10 @@ impl Word {
     // Each field moves by one place, and takes its bit of `word`.
     fn push(&mut self, word: u32)
         ensures layout { self.new.layout ≡ self.old.layout }
-        ensures memory { Moved self.old.layout.signature (fields_say (gaps_of self.old.layout.signature) self.old.memory) word (fields_say (gaps_of self.new.layout.signature) self.new.memory) }
+        ensures memory { Moved self.old.layout.shape.signature (fields_say (gaps_of self.old.layout.shape.signature) self.old.memory) word (fields_say (gaps_of self.new.layout.shape.signature) self.new.memory) }
     {
         let mut memory = (self.memory & self.layout.keep) << 1;
-        for j in 0..self.layout.signature.used_gaps().len() {
+        for j in 0..self.layout.shape.signature.used_gaps().len() {
             if (word >> j) & 1 == 1 {
                 memory |= self.layout.starts[j];
             }
@@ -45,9 +45,9 @@ impl Engine for Word {
 
     ghost LIMIT = { 64 };
 
-    ghost shape = { λ e. e.layout.signature };
+    ghost shape = { λ e. e.layout.shape.signature };
 
-    ghost says = { λ e. fields_say (gaps_of e.layout.signature) e.memory };
+    ghost says = { λ e. fields_say (gaps_of e.layout.shape.signature) e.memory };
 
     fn make(&mut self, signature: &Signature) {
         *self = Word {
@@ -59,7 +59,7 @@ impl Engine for Word {
     fn step(&mut self, fits: u32) -> u32 {
         let mut word = fits & 1;
         let mut memory = ((self.memory & self.layout.keep) << 1) | word as u64;
-        let mut left = fits & self.layout.later;
+        let mut left = fits & self.layout.shape.later;
         while left != 0 {
             let j = left.trailing_zeros() as usize;
             left &= left - 1;
@@ -81,6 +81,6 @@ impl Engine for Word {
     }
 
     fn signature(&self) -> Signature {
-        self.layout.signature
+        self.layout.shape.signature
     }
 }

@@ -14,7 +14,7 @@ loop-word-init c = (refl, steps_none _ _ _ _, λ k l. refl)
 pub loop-word-preserved : goal.loop-word-preserved
 loop-word-preserved c =
     let inv = c.loop-word.invariant in
-    let s = c.args.self.now.windows.signature in
+    let s = c.args.self.now.windows.shape.signature in
     let middle = masks_say c.loop-word.self.masks in
     let after = masks_say c.step.new.self.masks in
     let words = c.loop-word.word-items in
@@ -31,7 +31,7 @@ loop-word-preserved c =
 pub returns : goal.returns
 returns c =
     let inv = c.loop-word.invariant in
-    let s = c.args.self.now.windows.signature in
+    let s = c.args.self.now.windows.shape.signature in
     let fits = c.args.words.now in
     let says = masks_say c.args.self.now.masks in
     let marked = c.mark_strips-done.new.words in

@@ -11,7 +11,7 @@ loop-d-init c = λ e l h. let z : ⊥ = omega (arith, ap (λ (g : Gap). g.lo) c.
 
 pub overflow_sub-word : goal.overflow_sub-word
 overflow_sub-word c =
-    let s = c.args.self.now.signature in
+    let s = c.args.self.now.shape.signature in
     let gap = c.gap_at-gap.ensures in
     omega (arith, c.loop-d-test.true, ap (λ (g : Gap). g.lo) gap, ap (λ (g : Gap). g.hi) gap, gap_ordered s c.args.j c.requires, gap_narrow s c.args.j c.requires)
 

@@ -6,4 +6,4 @@ use Rattle.engines.proofs.ring.Ring.seen.Given as goal
 
 -- the memory says no at the allowed distances below d
 abbrev pub invariant-loop-d : goal.invariant-loop-d
-invariant-loop-d l = (e : ℕ) → low (gaps_of l.self.signature) l.j ≤ e → e < l.d → past_says l.self.past l.self.next l.j e ≡ false
+invariant-loop-d l = (e : ℕ) → low (gaps_of l.self.shape.signature) l.j ≤ e → e < l.d → past_says l.self.past l.self.next l.j e ≡ false

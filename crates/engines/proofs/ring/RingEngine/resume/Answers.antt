@@ -18,7 +18,7 @@ loop-i-preserved c = copied_more _ _ _ (omega (arith, few c.args.words.now _ c.s
 
 pub returns : goal.returns
 returns c =
-    let s = c.args.self.now.signature in
+    let s = c.args.self.now.shape.signature in
     let ws = c.args.words.now in
     let n = c.saturating_sub.result in
     let recent = take (length ws - n) (drop n ws) in

@@ -1,4 +1,4 @@
-use Rattle.std.proofs.Common.{◌≡◌, ℕ, ◌+◌, ◌-◌, ◌<◌, ◌≤◌, ◌≢◌, List, length, get_or, set, refl, ap, ◌∙◌, subst, arith, length-set, get_or-set_other, get_or-set_same, below_more}
+use Rattle.std.proofs.Common.{◌≡◌, ℕ, ◌+◌, ◌-◌, ◌<◌, ◌≤◌, ◌≢◌, List, length, get_or, set, sym, refl, ap, ◌∙◌, subst, arith, length-set, get_or-set_other, get_or-set_same, below_more}
 use Rattle.runs.specs.declared.gap.Gap.{Gap}
 use Rattle.runs.specs.Gaps.{low, high}
 use Rattle.runs.specs.Signatures.{gaps_of}
@@ -29,10 +29,10 @@ loop-j-preserved c =
 
 pub invariant_of-result : goal.invariant_of-result
 invariant_of-result c =
-    let s = c.args.signature.now in
+    let s = c.new.result.signature in
     let l = c.loop-j in
+    let same : c.used_gaps-gaps.result.now ≡ gaps_of s = c.used_gaps-gaps.ensures ∙ ap gaps_of (sym c.new.ensures) in
     let n = gaps_length s in
-    let same = ap length c.used_gaps-gaps.ensures in
-    let all : s.slots - 1 ≤ l.j = omega (arith, c.loop-j-test.false) in
-    let have : Allows (gaps_of s) l.j l.allowed = subst (λ (gs : List Gap). Allows gs l.j l.allowed) c.used_gaps-gaps.ensures l.invariant.1 in
-    record { after = c.later_slots.ensures; allows = λ j h. have j (omega arith) }
+    let all : s.slots - 1 ≤ l.j = omega (arith, c.loop-j-test.false, ap length same) in
+    let have : Allows (gaps_of s) l.j l.allowed = subst (λ (gs : List Gap). Allows gs l.j l.allowed) same l.invariant.1 in
+    record { allows = λ j h. have j (omega arith) }

@@ -14,12 +14,12 @@ use Rattle.engines.proofs.word.Word.push.Goals.{then-word-j-eq1, else-word-j-eq1
 pub loop-j-init : goal.loop-j-init
 loop-j-init c =
     let at = c.args.self.now.layout in
-    moved_word at.signature _ _ _ _ (λ j _. ap (λ w. bit w j) (sym (mod-one c.args.word))) (moved_none at.signature at.room _ at.keep at.stays)
+    moved_word at.shape.signature _ _ _ _ (λ j _. ap (λ w. bit w j) (sym (mod-one c.args.word))) (moved_none at.shape.signature at.room _ at.keep at.stays)
 
 pub loop-j-preserved : goal.loop-j-preserved
 loop-j-preserved c =
     let at = c.args.self.now.layout in
-    let s = at.signature in
+    let s = at.shape.signature in
     let j = c.loop-j.j in
     let word = c.args.word in
     let lt : j < s.slots - 1 = omega (arith, gaps_length s, ap length c.used_gaps-j-end.ensures) in
@@ -33,7 +33,7 @@ loop-j-preserved c =
 
 pub returns : goal.returns
 returns c =
-    let s = c.args.self.now.layout.signature in
+    let s = c.args.self.now.layout.shape.signature in
     let n = c.loop-j.j in
     let all : s.slots - 1 ≤ n = omega (arith, gaps_length s, ap length c.used_gaps-j-end.ensures) in
     record { layout = refl; memory = moved_word s _ _ _ _ (λ j l. bit_mod n c.args.word j (omega arith)) c.loop-j.invariant }
