@@ -7,6 +7,7 @@ ghost use Rattle.engines.specs.Memory.{Seen, Stepped, Moved};
 use crate::engine::Engine;
 use crate::strips::mark_strips;
 use crate::windows::Windows;
+use runs::bits::bears;
 use runs::signature::Signature;
 
 /// Bit d of `masks[j]` says whether a run of the first j + 1 slots ended d places before the latest: it takes every signature.
@@ -49,8 +50,9 @@ impl Masks {
         ensures windows { self.new.windows ≡ self.old.windows }
         ensures memory { Moved self.old.windows.shape.signature (masks_say self.old.masks) word (masks_say self.new.masks) }
     {
-        for j in 0..self.windows.shape.signature.used_gaps().len() {
-            self.masks[j] = (self.masks[j] << 1) | ((word >> j) & 1) as u64;
+        let used = self.windows.shape.signature.used_gaps().len();
+        for (j, mask) in self.masks[..used].iter_mut().enumerate() {
+            *mask = (*mask << 1) | u64::from(bears(word, j as u32));
         }
     }
 }

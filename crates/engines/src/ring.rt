@@ -1,11 +1,12 @@
 //! The engine that keeps the last 64 words.
 ghost use Rattle.std.specs.Prelude.{◌≡◌, ℕ, suc, ◌-◌, ◌<◌, false, Decides};
 ghost use Rattle.runs.specs.Signatures.{Blank};
-ghost use Rattle.engines.specs.Rings.{past_says};
+ghost use Rattle.engines.specs.Rings.{ago, past_says};
 ghost use Rattle.engines.specs.Memory.{Seen, Stepped, Moved};
 
 use crate::engine::Engine;
 use crate::shape::{Shape, gap_at};
+use runs::bits::bears;
 use runs::signature::Signature;
 
 /// The words stand one after another, and go on at the beginning: it takes every signature.
@@ -32,19 +33,21 @@ impl Ring {
         }
     }
 
+    // The word at distance d.
+    fn ago(&self, d: usize) -> u32
+        requires { d < 64 }
+        ensures { result ≡ ago self.now.past self.now.next d }
+    {
+        self.past[(self.next + 63 - d) % 64]
+    }
+
     // Whether the memory says yes for slot j at a distance that gap j allows.
     fn seen(&self, j: u32) -> bool
         requires { suc j < self.now.shape.signature.slots }
         ensures { Decides result (Seen self.now.shape.signature (past_says self.now.past self.now.next) j) }
     {
         let gap = gap_at(&self.shape.signature, j);
-        for d in gap.lo..=gap.hi {
-            let word = self.past[(self.next + 63 - d as usize) % 64];
-            if (word >> j) & 1 == 1 {
-                return true;
-            }
-        }
-        false
+        (gap.lo as usize..gap.hi as usize + 1).any(|d| bears(self.ago(d), j))
     }
 
     // The mark word of the next place.
@@ -90,9 +93,7 @@ impl Engine for Ring {
     fn resume(&mut self, words: &[u32]) {
         let recent = &words[words.len().saturating_sub(64)..];
         let mut past = [0; 64];
-        for (i, word) in recent.iter().enumerate() {
-            past[i] = *word;
-        }
+        past[..recent.len()].copy_from_slice(recent);
         self.past = past;
         self.next = recent.len() % 64;
     }

@@ -6,6 +6,7 @@ ghost use Rattle.engines.specs.Memory.{Moved};
 
 use crate::engine::Engine;
 use crate::layout::Layout;
+use runs::bits::bears;
 use runs::signature::Signature;
 
 /// For each gap one field of bits: it takes signatures that reach 64 places at most.
@@ -31,9 +32,10 @@ impl Word {
         ensures memory { Moved self.old.layout.shape.signature (fields_say (gaps_of self.old.layout.shape.signature) self.old.memory) word (fields_say (gaps_of self.new.layout.shape.signature) self.new.memory) }
     {
         let mut memory = (self.memory & self.layout.keep) << 1;
-        for j in 0..self.layout.shape.signature.used_gaps().len() {
-            if (word >> j) & 1 == 1 {
-                memory |= self.layout.starts[j];
+        let used = self.layout.shape.signature.used_gaps().len();
+        for (j, start) in self.layout.starts[..used].iter().enumerate() {
+            if bears(word, j as u32) {
+                memory |= *start;
             }
         }
         self.memory = memory;
