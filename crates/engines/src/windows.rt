@@ -20,14 +20,11 @@ impl Windows {
     pub(crate) fn new(signature: &Signature) -> Windows
         ensures { result.shape.signature ≡ signature.now }
     {
-        let gaps = signature.used_gaps();
-        let mut allowed = [0; 31];
-        for (j, gap) in gaps.iter().enumerate() {
-            allowed[j] = ones(gap.lo as u32, (gap.hi - gap.lo) as u32 + 1);
-        }
         Windows {
             shape: Shape::new(signature),
-            allowed,
+            allowed: signature
+                .gaps
+                .map(|gap| ones(gap.lo as u32, (gap.hi - gap.lo) as u32 + 1)),
         }
     }
 }
