@@ -12,6 +12,7 @@ use runs::signature::Signature;
 #[derive(Drop)]
 pub struct Layout {
     pub shape: Shape,
+    // two arrays: with one array of starts and windows a step takes a tenth longer;
     // for each slot but the last the first bit of its field, and 0 for the others
     pub starts: [u64; 32],
     // for each gap the bits of its field at the distances that it allows
@@ -36,6 +37,7 @@ impl Layout {
         let mut windows = [0; 31];
         let mut keep = 0;
         let mut at = 0;
+        // by an index, since both arrays, `keep` and `at` go along
         for (j, gap) in gaps.iter().enumerate() {
             starts[j] = 1u64 << at;
             windows[j] = ones(at + gap.lo as u32, (gap.hi - gap.lo) as u32 + 1);

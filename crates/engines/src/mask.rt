@@ -82,6 +82,7 @@ impl Engine for Masks {
     fn stretch(&mut self, words: &mut [u32]) {
         let signature = self.windows.shape.signature;
         let done = mark_strips(&signature, &mut self.masks, words);
+        // the loop of `Engine::stretch` again: a function of both would call back into this block, and such a call gets no proof
         for word in &mut words[done..] {
             *word = self.step(*word);
         }
