@@ -1,6 +1,6 @@
 -- Steps after steps.
-use Rattle.std.proofs.Common.{◌≡◌, ℕ, suc, ◌+◌, ◌<◌, ◌≤◌, List, get_or, drop, sym, ◌∙◌, subst, inl, arith}
-use Rattle.std.proofs.lemmas.List.{get_or-drop}
+use Rattle.std.proofs.Common.{◌≡◌, ℕ, suc, ◌+◌, ◌<◌, ◌≤◌, List, ◌++◌, length, get_or, take, drop, sym, ◌∙◌, subst, inl, arith}
+use Rattle.std.proofs.lemmas.List.{get_or-drop, get_or-take, get_or_append_left, length-take-le, drop_at}
 use Rattle.runs.specs.declared.signature.Signature.{Signature}
 use Rattle.engines.specs.Memory.{Memory, Stepped, Moved, Same, Steps}
 use Rattle.engines.specs.Memory.Steps.{none, more}
@@ -43,3 +43,14 @@ module _ (s : Signature) where
       let same : (k : ℕ) → k < 64 → get_or (drop n words) k 0 ≡ get_or (drop n fits) k 0 = λ k l. get_or-drop n words k 0 ∙ rest (n + k) (omega arith) ∙ sym (get_or-drop n fits k 0) in
       steps_join fits new says (masks_say masks) n (masks_say after) 64 (steps_alike s fits words new says (masks_say masks) n (λ k l. sym (others k (inl l))) first)
       (steps_fits (drop n words) (drop n fits) (drop n new) (masks_say masks) (masks_say after) 64 same strip)
+
+  -- from place n on one step after another
+  pub steps_rest : (fits words rest : List ℕ) (says middle after : Memory) (n : ℕ) → n ≤ length words → Steps s fits words says n middle → ((k : ℕ) → n ≤ k → get_or words k 0 ≡ get_or fits k 0)
+      → Steps s (drop n words) rest middle (length rest) after → Steps s fits (take n words ++ rest) says (n + length rest) after
+  steps_rest fits words rest says middle after n l first same steps =
+      let front : length (take n words) ≡ n = length-take-le n words l in
+      steps_join fits (take n words ++ rest) says middle n after (length rest)
+      (steps_alike s fits words (take n words ++ rest) says middle n
+      (λ k h. let lt : k < length (take n words) = omega arith in sym (get_or_append_left (take n words) rest 0 k lt ∙ get_or-take n words k 0 h)) first)
+      (subst (λ (ws : List ℕ). Steps s (drop n fits) ws middle (length rest) after) (sym (drop_at (take n words) rest n front))
+      (steps_fits (drop n words) (drop n fits) rest middle after (length rest) (λ k h. get_or-drop n words k 0 ∙ same (n + k) (omega arith) ∙ sym (get_or-drop n fits k 0)) steps))

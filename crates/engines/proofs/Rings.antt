@@ -1,13 +1,13 @@
 -- The ring of the last 64 words.
-use Rattle.std.proofs.Common.{◌≡◌, ℕ, suc, ◌+◌, ◌-◌, ◌/◌, ◌%◌, ◌^◌, ◌<◌, ◌≤◌, false, ◌≢◌, List, reverse, length, get_or, set, replicate, sym, refl, ap, ◌∙◌, subst, ⊎_elim, arith, length-set, get_or-set_other, get_or-set_same, below_more}
-use lib.Bits.{bit_and}
-use Rattle.std.proofs.lemmas.List.{get_or-reverse, get_or_past, length-reverse}
-use Rattle.std.proofs.lemmas.Bool.{cases_lt}
+use Rattle.std.proofs.Common.{◌≡◌, ℕ, zero, suc, ◌+◌, ◌-◌, ◌%◌, ◌<◌, ◌≤◌, Bool, true, false, Decides, ◌≢◌, List, ◌++◌, reverse, length, get_or, drop, set, replicate, sym, refl, ap, ◌∙◌, subst, ⊎_elim, arith, get_or-set_other, get_or-set_same}
+use Rattle.std.proofs.lemmas.List.{get_or-reverse, get_or_past, get_or-drop, get_or_append_left, get_or-append_right, length-reverse}
+use Rattle.std.proofs.lemmas.Bool.{cases_lt, cases_eq, both_ways, or_cases, or_left, or_right}
+use Rattle.std.specs.List.{list_any, range_with_len}
 use Rattle.runs.specs.declared.signature.Signature.{Signature}
 use Rattle.runs.specs.Bits.{bit}
 use Rattle.engines.specs.Memory.{Moved, Recalls}
 use Rattle.engines.specs.Rings.{ago, past_says}
-use Rattle.engines.proofs.Bits.{bit_zero, bit_off}
+use Rattle.engines.proofs.Bits.{bit_zero}
 use Rattle.engines.proofs.Laid.{all_same}
 use Rattle.engines.proofs.Signatures.{gap_narrow}
 
@@ -32,46 +32,45 @@ ring_moved s past next w l n = record {
 pub past_blank : (next j d : ℕ) → past_says (replicate 64 0) next j d ≡ false
 past_blank next j d = ap (λ w. bit w j) (all_same 64 ((next + 63 - d) % 64) 0) ∙ bit_zero j
 
--- no run at the distances from lo on below d, and none at d
-pub none_more : (past : List ℕ) (next j lo d : ℕ) → ((e : ℕ) → lo ≤ e → e < d → past_says past next j e ≡ false) → (bit_and (ago past next d / 2 ^ j) 1 ≡ 1 → ⊥)
-    → (e : ℕ) → lo ≤ e → e < d + 1 → past_says past next j e ≡ false
-none_more past next j lo d before here e l n = ⊎_elim
-    (λ (h : e < d). before e l h)
-    (λ (h : d ≤ e). let q : d ≡ e = omega arith in subst (λ e. past_says past next j e ≡ false) q (bit_off (ago past next d) j here))
-    (cases_lt e d)
+-- whether a number from a on passes a test
+pub any_from : (test : ℕ → Bool) (a n : ℕ) → Decides (list_any test (range_with_len a n)) ((d : ℕ) × (a ≤ d) × (d < a + n) × (test d ≡ true))
+any_from test a zero = ((λ b. absurd (both_ways false refl b)), (λ h. let z : ⊥ = omega (arith, h.1, h.2) in absurd z))
+any_from test a (suc n) =
+    let rest = any_from test (a + 1) n in (
+      (λ b. ⊎_elim
+          (λ (e : test a ≡ true). (a, omega arith, omega arith, e))
+          (λ (e : list_any test (range_with_len (a + 1) n) ≡ true). let r = rest.0 e in (r.0, omega (arith, r.1), omega (arith, r.2), r.3))
+          (or_cases (test a) (list_any test (range_with_len (a + 1) n)) b)),
+      (λ h. ⊎_elim
+          (λ (e : h.0 ≡ a). or_left (test a) (list_any test (range_with_len (a + 1) n)) (subst (λ d. test d ≡ true) e h.3))
+          (λ (e : h.0 ≡ a → ⊥). or_right (test a) (list_any test (range_with_len (a + 1) n)) (rest.1 (h.0, omega (arith, h.1), omega (arith, h.2), h.3)))
+          (cases_eq h.0 a)),
+    )
 
--- the first i places have the words of a list, and the others 0
-pub record Copied (words : List ℕ) (i : ℕ) (past : List ℕ) : Type 0 where
-  pub long : length past ≡ 64
-  pub same : (k : ℕ) → k < i → get_or past k 0 ≡ get_or words k 0
-  pub rest : (k : ℕ) → i ≤ k → get_or past k 0 ≡ 0
+-- the words of a list, and zeros behind them
+abbrev padded : List ℕ → List ℕ
+padded words = words ++ drop (length words) (replicate 64 0)
 
-pub copied_none : (words : List ℕ) → Copied words 0 (replicate 64 0)
-copied_none words = record { long = refl; same = λ k l. let z : ⊥ = omega arith in absurd z; rest = λ k _. all_same 64 k 0 }
+padded_in : (words : List ℕ) (k : ℕ) → k < length words → get_or (padded words) k 0 ≡ get_or words k 0
+padded_in words k l = get_or_append_left words (drop (length words) (replicate 64 0)) 0 k l
 
-pub copied_more : (words past : List ℕ) (i : ℕ) → i < 64 → Copied words i past → Copied words (i + 1) (set past i (get_or words i 0))
-copied_more words past i l have =
-    let w = get_or words i 0 in
-    record {
-      long = simp length-set have.long;
-      same = below_more (λ k. get_or (set past i w) k 0 ≡ get_or words k 0) i
-          (λ k h. let ne : k ≢ i = omega arith in get_or-set_other past i k w 0 ne ∙ have.same k h)
-          (get_or-set_same past i w 0 (omega (arith, have.long)));
-      rest = λ k h. let ne : k ≢ i = omega arith in get_or-set_other past i k w 0 ne ∙ have.rest k (omega arith);
-    }
+padded_past : (words : List ℕ) (k : ℕ) → length words ≤ k → get_or (padded words) k 0 ≡ 0
+padded_past words k l =
+    let n = length words in
+    let i : n + (k - n) ≡ k = omega arith in
+    get_or-append_right words (drop n (replicate 64 0)) n k 0 refl l ∙ get_or-drop n (replicate 64 0) (k - n) 0 ∙ ap (λ i. get_or (replicate 64 0) i 0) i ∙ all_same 64 k 0
 
--- all words are copied
-copied_ago : (words past : List ℕ) (d : ℕ) → length words ≤ 64 → d < 64 → Copied words (length words) past → ago past (length words % 64) d ≡ get_or (reverse words) d 0
-copied_ago words past d few l have =
+padded_ago : (words : List ℕ) (d : ℕ) → length words ≤ 64 → d < 64 → ago (padded words) (length words % 64) d ≡ get_or (reverse words) d 0
+padded_ago words d few l =
     let n = length words in
     ⊎_elim
     (λ (h : d < n).
     let i : (n % 64 + 63 - d) % 64 ≡ n - 1 - d = ⊎_elim (λ (k : n < 64). omega arith) (λ (k : 64 ≤ n). omega arith) (cases_lt n 64) in
-    ap (λ i. get_or past i 0) i ∙ have.same (n - 1 - d) (omega arith) ∙ sym (get_or-reverse words d 0 h))
+    ap (λ i. get_or (padded words) i 0) i ∙ padded_in words (n - 1 - d) (omega arith) ∙ sym (get_or-reverse words d 0 h))
     (λ (h : n ≤ d).
     let i : n ≤ (n % 64 + 63 - d) % 64 = omega arith in
-    have.rest ((n % 64 + 63 - d) % 64) i ∙ sym (get_or_past (reverse words) d 0 (omega (arith, length-reverse words))))
+    padded_past words ((n % 64 + 63 - d) % 64) i ∙ sym (get_or_past (reverse words) d 0 (omega (arith, length-reverse words))))
     (cases_lt d n)
 
-pub copied_all : (s : Signature) (words past : List ℕ) → length words ≤ 64 → Copied words (length words) past → Recalls s words (past_says past (length words % 64))
-copied_all s words past few have j d l h = ap (λ w. bit w j) (copied_ago words past d few (omega (arith, gap_narrow s j l)) have)
+pub padded_recalls : (s : Signature) (words : List ℕ) → length words ≤ 64 → Recalls s words (past_says (padded words) (length words % 64))
+padded_recalls s words few j d l h = ap (λ w. bit w j) (padded_ago words d few (omega (arith, gap_narrow s j l)))

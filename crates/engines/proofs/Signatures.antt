@@ -10,7 +10,7 @@ module _ (s : Signature) where
   pub gaps_length : length (gaps_of s) ≡ s.slots - 1
   gaps_length = length-take-le (s.slots - 1) s.gaps (omega (arith, s.few, s.long))
 
-  same : (j : ℕ) → suc j < s.slots → get_or (gaps_of s) j no_gap ≡ get_or s.gaps j no_gap
+  pub same : (j : ℕ) → suc j < s.slots → get_or (gaps_of s) j no_gap ≡ get_or s.gaps j no_gap
   same j l = get_or-take (s.slots - 1) s.gaps j no_gap (omega arith)
 
   pub gap_ordered : (j : ℕ) → suc j < s.slots → low (gaps_of s) j ≤ high (gaps_of s) j

@@ -5,6 +5,7 @@ ghost use Rattle.runs.specs.Gaps.{reach};
 ghost use Rattle.runs.specs.Signatures.{gaps_of};
 ghost use Rattle.engines.specs.Memory.{Stepped, Moved, Recalls, Chain, nth_gap};
 
+use crate::shape::gap_at;
 use runs::gap::Gap;
 use runs::signature::Signature;
 
@@ -14,7 +15,7 @@ pub trait Engine: Sized {
     const LIMIT: u32;
 
     // the same number, as clauses name it
-    ghost limit: { ℕ };
+    ghost LIMIT: { ℕ };
 
     // the number of slots and the gaps
     ghost shape: { Self → Signature };
@@ -23,13 +24,9 @@ pub trait Engine: Sized {
     // It means something for each slot j but the last, and for d up to the highest size of gap j
     ghost says: { Self → ℕ → ℕ → Bool };
 
-    /// The limit, as a function.
-    fn greatest() -> u32
-        ensures { result ≡ limit };
-
     /// Sets the slots and gaps; the memory then says no everywhere.
     fn make(&mut self, signature: &Signature)
-        requires { reach (gaps_of signature.now) ≤ limit }
+        requires { reach (gaps_of signature.now) ≤ LIMIT }
         ensures shape { shape self.new ≡ signature.now }
         ensures memory { Recalls signature.now [] (says self.new) };
 
@@ -44,8 +41,8 @@ pub trait Engine: Sized {
         ensures shape { shape self.new ≡ shape self.old }
         ensures chain { Chain (shape self.old) (says self.old) words.old words.new (says self.new) }
     {
-        for i in 0..words.len() {
-            words[i] = self.step(words[i]);
+        for word in words {
+            *word = self.step(*word);
         }
     }
 
@@ -54,11 +51,21 @@ pub trait Engine: Sized {
         ensures shape { shape self.new ≡ shape self.old }
         ensures memory { Recalls (shape self.old) words.now (says self.new) };
 
+    /// The slots and gaps.
+    fn signature(&self) -> Signature
+        ensures { result ≡ shape self.now };
+
     /// How many slots there are.
     fn slots(&self) -> u32
-        ensures { result ≡ (shape self.now).slots };
+        ensures { result ≡ (shape self.now).slots }
+    {
+        self.signature().slots
+    }
 
     /// Gap j, 0 to 0 where there is none.
     fn gap(&self, j: u32) -> Gap
-        ensures { result ≡ nth_gap (shape self.now) j };
+        ensures { result ≡ nth_gap (shape self.now) j }
+    {
+        gap_at(&self.signature(), j)
+    }
 }

@@ -1,14 +1,13 @@
 //! The engine that keeps one mask of 64 places for each slot.
-ghost use Rattle.std.specs.Prelude.{◌≡◌, ℕ, false};
+ghost use Rattle.std.specs.Prelude.{◌≡◌, ℕ, suc, ◌<◌, false, Decides};
 ghost use Rattle.runs.specs.Signatures.{Blank};
 ghost use Rattle.engines.specs.Masked.{masks_say};
-ghost use Rattle.engines.specs.Memory.{Stepped, Moved};
+ghost use Rattle.engines.specs.Memory.{Seen, Stepped, Moved};
 
 use crate::engine::Engine;
-use crate::shape::gap_at;
 use crate::strips::mark_strips;
 use crate::windows::Windows;
-use runs::gap::Gap;
+use runs::bits::bears;
 use runs::signature::Signature;
 
 /// Bit d of `masks[j]` says whether a run of the first j + 1 slots ended d places before the latest: it takes every signature.
@@ -21,7 +20,7 @@ pub struct Masks {
 impl Masks {
     /// An engine with no slots.
     pub fn new() -> Masks
-        ensures shape { Blank result.windows.signature }
+        ensures shape { Blank result.windows.shape.signature }
         ensures memory { (j d : ℕ) → masks_say result.masks j d ≡ false }
     {
         let masks = [0; 31];
@@ -31,29 +30,29 @@ impl Masks {
         }
     }
 
+    // Whether the memory says yes for slot j at a distance that gap j allows.
+    fn seen(&self, j: u32) -> bool
+        requires { suc j < self.now.windows.shape.signature.slots }
+        ensures { Decides result (Seen self.now.windows.shape.signature (masks_say self.now.masks) j) }
+    {
+        self.masks[j as usize] & self.windows.allowed[j as usize] != 0
+    }
+
     // The mark word of the next place.
     fn word(&self, fits: u32) -> u32
-        ensures { Stepped self.now.windows.signature (masks_say self.now.masks) fits result }
+        ensures { Stepped self.now.windows.shape.signature (masks_say self.now.masks) fits result }
     {
-        let mut word = fits & 1;
-        let mut left = fits & self.windows.later;
-        while left != 0 {
-            let j = left.trailing_zeros() as usize;
-            left &= left - 1;
-            if self.masks[j - 1] & self.windows.allowed[j - 1] != 0 {
-                word |= 1 << j;
-            }
-        }
-        word
+        self.windows.shape.word(fits, |j| self.seen(j))
     }
 
     // Each mask moves by one place, and takes its bit of `word`.
     fn push(&mut self, word: u32)
         ensures windows { self.new.windows ≡ self.old.windows }
-        ensures memory { Moved self.old.windows.signature (masks_say self.old.masks) word (masks_say self.new.masks) }
+        ensures memory { Moved self.old.windows.shape.signature (masks_say self.old.masks) word (masks_say self.new.masks) }
     {
-        for j in 0..self.windows.signature.used_gaps().len() {
-            self.masks[j] = (self.masks[j] << 1) | ((word >> j) & 1) as u64;
+        let used = self.windows.shape.signature.used_gaps().len();
+        for (j, mask) in self.masks[..used].iter_mut().enumerate() {
+            *mask = (*mask << 1) | u64::from(bears(word, j as u32));
         }
     }
 }
@@ -61,15 +60,11 @@ impl Masks {
 impl Engine for Masks {
     const LIMIT: u32 = 1985;
 
-    ghost limit = { 1985 };
+    ghost LIMIT = { 1985 };
 
-    ghost shape = { λ e. e.windows.signature };
+    ghost shape = { λ e. e.windows.shape.signature };
 
     ghost says = { λ e. masks_say e.masks };
-
-    fn greatest() -> u32 {
-        Self::LIMIT
-    }
 
     fn make(&mut self, signature: &Signature) {
         *self = Masks {
@@ -85,10 +80,11 @@ impl Engine for Masks {
     }
 
     fn stretch(&mut self, words: &mut [u32]) {
-        let signature = self.windows.signature;
+        let signature = self.windows.shape.signature;
         let done = mark_strips(&signature, &mut self.masks, words);
-        for i in done..words.len() {
-            words[i] = self.step(words[i]);
+        // the loop of `Engine::stretch` again: a function of both would call back into this block, and such a call gets no proof
+        for word in &mut words[done..] {
+            *word = self.step(*word);
         }
     }
 
@@ -100,11 +96,7 @@ impl Engine for Masks {
         }
     }
 
-    fn slots(&self) -> u32 {
-        self.windows.signature.slots
-    }
-
-    fn gap(&self, j: u32) -> Gap {
-        gap_at(&self.windows.signature, j)
+    fn signature(&self) -> Signature {
+        self.windows.shape.signature
     }
 }

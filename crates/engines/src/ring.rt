@@ -1,80 +1,66 @@
 //! The engine that keeps the last 64 words.
 ghost use Rattle.std.specs.Prelude.{◌≡◌, ℕ, suc, ◌-◌, ◌<◌, false, Decides};
 ghost use Rattle.runs.specs.Signatures.{Blank};
-ghost use Rattle.engines.specs.Blocks.{block};
-ghost use Rattle.engines.specs.Rings.{past_says};
+ghost use Rattle.engines.specs.Rings.{ago, past_says};
 ghost use Rattle.engines.specs.Memory.{Seen, Stepped, Moved};
 
 use crate::engine::Engine;
-use crate::shape::{gap_at, later_slots};
-use runs::gap::Gap;
+use crate::shape::{Shape, gap_at};
+use runs::bits::bears;
 use runs::signature::Signature;
 
 /// The words stand one after another, and go on at the beginning: it takes every signature.
 #[derive(Drop)]
 pub struct Ring {
-    signature: Signature,
-    // the bits of the slots after the first
-    later: u32,
+    shape: Shape,
     past: [u32; 64],
     // where the next word goes
     next: usize,
-    ghost after: { later ≡ block 1 (signature.slots - 1) },
     ghost inside: { next < 64 },
 }
 
 impl Ring {
     /// An engine with no slots.
     pub fn new() -> Ring
-        ensures shape { Blank result.signature }
+        ensures shape { Blank result.shape.signature }
         ensures memory { (j d : ℕ) → past_says result.past result.next j d ≡ false }
     {
-        let signature = Signature::new();
         let past = [0; 64];
         Ring {
-            signature,
-            later: later_slots(&signature),
+            shape: Shape::new(&Signature::new()),
             past,
             next: 0,
         }
     }
 
+    // The word at distance d.
+    fn ago(&self, d: usize) -> u32
+        requires { d < 64 }
+        ensures { result ≡ ago self.now.past self.now.next d }
+    {
+        self.past[(self.next + 63 - d) % 64]
+    }
+
     // Whether the memory says yes for slot j at a distance that gap j allows.
     fn seen(&self, j: u32) -> bool
-        requires { suc j < self.now.signature.slots }
-        ensures { Decides result (Seen self.now.signature (past_says self.now.past self.now.next) j) }
+        requires { suc j < self.now.shape.signature.slots }
+        ensures { Decides result (Seen self.now.shape.signature (past_says self.now.past self.now.next) j) }
     {
-        let signature = &self.signature;
-        let gap = gap_at(signature, j);
-        for d in gap.lo..=gap.hi {
-            let word = self.past[(self.next + 63 - d as usize) % 64];
-            if (word >> j) & 1 == 1 {
-                return true;
-            }
-        }
-        false
+        let gap = gap_at(&self.shape.signature, j);
+        (gap.lo as usize..gap.hi as usize + 1).any(|d| bears(self.ago(d), j))
     }
 
     // The mark word of the next place.
     fn word(&self, fits: u32) -> u32
-        ensures { Stepped self.now.signature (past_says self.now.past self.now.next) fits result }
+        ensures { Stepped self.now.shape.signature (past_says self.now.past self.now.next) fits result }
     {
-        let mut word = fits & 1;
-        let mut left = fits & self.later;
-        while left != 0 {
-            let j = left.trailing_zeros();
-            left &= left - 1;
-            if self.seen(j - 1) {
-                word |= 1 << j;
-            }
-        }
-        word
+        self.shape.word(fits, |j| self.seen(j))
     }
 
     // Each word moves one distance further, and `word` is the newest.
     fn push(&mut self, word: u32)
-        ensures signature { self.new.signature ≡ self.old.signature }
-        ensures memory { Moved self.old.signature (past_says self.old.past self.old.next) word (past_says self.new.past self.new.next) }
+        ensures shape { self.new.shape ≡ self.old.shape }
+        ensures memory { Moved self.old.shape.signature (past_says self.old.past self.old.next) word (past_says self.new.past self.new.next) }
     {
         self.past[self.next] = word;
         self.next = (self.next + 1) % 64;
@@ -84,20 +70,15 @@ impl Ring {
 impl Engine for Ring {
     const LIMIT: u32 = 1985;
 
-    ghost limit = { 1985 };
+    ghost LIMIT = { 1985 };
 
-    ghost shape = { λ e. e.signature };
+    ghost shape = { λ e. e.shape.signature };
 
     ghost says = { λ e. past_says e.past e.next };
 
-    fn greatest() -> u32 {
-        Self::LIMIT
-    }
-
     fn make(&mut self, signature: &Signature) {
         *self = Ring {
-            signature: *signature,
-            later: later_slots(signature),
+            shape: Shape::new(signature),
             past: [0; 64],
             next: 0,
         };
@@ -112,18 +93,12 @@ impl Engine for Ring {
     fn resume(&mut self, words: &[u32]) {
         let recent = &words[words.len().saturating_sub(64)..];
         let mut past = [0; 64];
-        for (i, word) in recent.iter().enumerate() {
-            past[i] = *word;
-        }
+        past[..recent.len()].copy_from_slice(recent);
         self.past = past;
         self.next = recent.len() % 64;
     }
 
-    fn slots(&self) -> u32 {
-        self.signature.slots
-    }
-
-    fn gap(&self, j: u32) -> Gap {
-        gap_at(&self.signature, j)
+    fn signature(&self) -> Signature {
+        self.shape.signature
     }
 }

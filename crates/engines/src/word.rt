@@ -6,8 +6,7 @@ ghost use Rattle.engines.specs.Memory.{Moved};
 
 use crate::engine::Engine;
 use crate::layout::Layout;
-use crate::shape::gap_at;
-use runs::gap::Gap;
+use runs::bits::bears;
 use runs::signature::Signature;
 
 /// For each gap one field of bits: it takes signatures that reach 64 places at most.
@@ -20,8 +19,8 @@ pub struct Word {
 impl Word {
     /// An engine with no slots.
     pub fn new() -> Word
-        ensures shape { Blank result.layout.signature }
-        ensures memory { (j d : ℕ) → fields_say (gaps_of result.layout.signature) result.memory j d ≡ false }
+        ensures shape { Blank result.layout.shape.signature }
+        ensures memory { (j d : ℕ) → fields_say (gaps_of result.layout.shape.signature) result.memory j d ≡ false }
     {
         let layout = Layout::new(&Signature::new());
         Word { layout, memory: 0 }
@@ -30,12 +29,13 @@ impl Word {
     // Each field moves by one place, and takes its bit of `word`.
     fn push(&mut self, word: u32)
         ensures layout { self.new.layout ≡ self.old.layout }
-        ensures memory { Moved self.old.layout.signature (fields_say (gaps_of self.old.layout.signature) self.old.memory) word (fields_say (gaps_of self.new.layout.signature) self.new.memory) }
+        ensures memory { Moved self.old.layout.shape.signature (fields_say (gaps_of self.old.layout.shape.signature) self.old.memory) word (fields_say (gaps_of self.new.layout.shape.signature) self.new.memory) }
     {
         let mut memory = (self.memory & self.layout.keep) << 1;
-        for j in 0..self.layout.signature.used_gaps().len() {
-            if (word >> j) & 1 == 1 {
-                memory |= self.layout.starts[j];
+        let used = self.layout.shape.signature.used_gaps().len();
+        for (j, start) in self.layout.starts[..used].iter().enumerate() {
+            if bears(word, j as u32) {
+                memory |= *start;
             }
         }
         self.memory = memory;
@@ -45,15 +45,11 @@ impl Word {
 impl Engine for Word {
     const LIMIT: u32 = 64;
 
-    ghost limit = { 64 };
+    ghost LIMIT = { 64 };
 
-    ghost shape = { λ e. e.layout.signature };
+    ghost shape = { λ e. e.layout.shape.signature };
 
-    ghost says = { λ e. fields_say (gaps_of e.layout.signature) e.memory };
-
-    fn greatest() -> u32 {
-        Self::LIMIT
-    }
+    ghost says = { λ e. fields_say (gaps_of e.layout.shape.signature) e.memory };
 
     fn make(&mut self, signature: &Signature) {
         *self = Word {
@@ -63,9 +59,10 @@ impl Engine for Word {
     }
 
     fn step(&mut self, fits: u32) -> u32 {
+        // the word is found and taken into the memory in one loop: with `word` of the shape and `push` a step takes a third longer
         let mut word = fits & 1;
         let mut memory = ((self.memory & self.layout.keep) << 1) | word as u64;
-        let mut left = fits & self.layout.later;
+        let mut left = fits & self.layout.shape.later;
         while left != 0 {
             let j = left.trailing_zeros() as usize;
             left &= left - 1;
@@ -86,11 +83,7 @@ impl Engine for Word {
         }
     }
 
-    fn slots(&self) -> u32 {
-        self.layout.signature.slots
-    }
-
-    fn gap(&self, j: u32) -> Gap {
-        gap_at(&self.layout.signature, j)
+    fn signature(&self) -> Signature {
+        self.layout.shape.signature
     }
 }

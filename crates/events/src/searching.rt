@@ -17,9 +17,9 @@ pub fn search_codes<E: Engine + Drop>(
     signature: &mut Signature,
     sheet: &mut [u32],
 ) -> Result<usize, Refusal>
-    ensures value { result ≡ counted codes.now (searchable E.Engine.limit text.now (length codes.now) (length sheet.old)) }
-    ensures sheet { sheet.new ≡ sheet_left codes.now sheet.old (searchable E.Engine.limit text.now (length codes.now) (length sheet.old)) }
-    ensures signature { SignatureLeft (searchable E.Engine.limit text.now (length codes.now) (length sheet.old)) signature.new }
+    ensures value { result ≡ counted codes.now (searchable E.Engine.LIMIT text.now (length codes.now) (length sheet.old)) }
+    ensures sheet { sheet.new ≡ sheet_left codes.now sheet.old (searchable E.Engine.LIMIT text.now (length codes.now) (length sheet.old)) }
+    ensures signature { SignatureLeft (searchable E.Engine.LIMIT text.now (length codes.now) (length sheet.old)) signature.new }
 {
     let mut gauge = Event::new();
     read_signature(&mut gauge, signature, text)?;

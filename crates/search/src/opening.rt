@@ -16,7 +16,7 @@ pub fn check_opening<E: Engine>(
     sheet: usize,
     signature: &Signature,
 ) -> Result<(), Refusal>
-    ensures { result ≡ opening E.Engine.limit readings sheet signature.now }
+    ensures { result ≡ opening E.Engine.LIMIT readings sheet signature.now }
 {
     if readings != sheet || readings == 0 || readings > MOST {
         return Err(Refusal::Buffers);
@@ -24,7 +24,7 @@ pub fn check_opening<E: Engine>(
     if signature.slots == 0 {
         return Err(Refusal::NoSlots);
     }
-    if signature.reach() > E::greatest() {
+    if signature.reach() > E::LIMIT {
         return Err(Refusal::FarReach);
     }
     Ok(())

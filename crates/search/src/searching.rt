@@ -30,8 +30,8 @@ pub fn search<G: Gauge, E: Engine + Drop>(
     readings: &[G::Reading],
     sheet: &mut [u32],
 ) -> Result<usize, Refusal>
-    ensures value { result ≡ found (pattern_of (G.Gauge.sets gauge.now) signature.now) readings.now (opening E.Engine.limit (length readings.now) (length sheet.old) signature.now) }
-    ensures sheet { sheet.new ≡ sheet_after (pattern_of (G.Gauge.sets gauge.now) signature.now) readings.now sheet.old (opening E.Engine.limit (length readings.now) (length sheet.old) signature.now) }
+    ensures value { result ≡ found (pattern_of (G.Gauge.sets gauge.now) signature.now) readings.now (opening E.Engine.LIMIT (length readings.now) (length sheet.old) signature.now) }
+    ensures sheet { sheet.new ≡ sheet_after (pattern_of (G.Gauge.sets gauge.now) signature.now) readings.now sheet.old (opening E.Engine.LIMIT (length readings.now) (length sheet.old) signature.now) }
 {
     check_opening::<E>(readings.len(), sheet.len(), signature)?;
     let mut engine = engine;

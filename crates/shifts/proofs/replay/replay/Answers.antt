@@ -29,6 +29,6 @@ returns g c =
     let rs = c.loop-i.readings in
     let ws = c.loop-i.sheet in
     let ends = c.close.ensures rs ws in
-    replayed M g.E.Engine.limit c.args.gauge c.args.signature.now c.args.readings.now rs c.args.sheet.now ws c.args.requests.now c.loop-i.requests
+    replayed M g.E.Engine.LIMIT c.args.gauge c.args.signature.now c.args.readings.now rs c.args.sheet.now ws c.args.requests.now c.loop-i.requests
     (state opened c.in-Ok.open c.args.readings.now c.args.sheet.now) (standing c.loop-i.kept rs ws) c.close.result
     c.in-Ok.ensures c.loop-i.i (omega arith) c.loop-i.invariant ends.0 ends.1

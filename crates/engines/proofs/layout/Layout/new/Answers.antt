@@ -1,4 +1,4 @@
-use Rattle.std.proofs.Common.{◌≡◌, ℕ, ◌+◌, ◌-◌, ◌<◌, ◌≤◌, List, length, sym, ap, subst, arith}
+use Rattle.std.proofs.Common.{◌≡◌, ℕ, ◌+◌, ◌-◌, ◌<◌, ◌≤◌, List, length, sym, ap, ◌∙◌, subst, arith}
 use Rattle.runs.specs.declared.gap.Gap.{Gap}
 use Rattle.runs.specs.declared.signature.Signature.{Signature}
 use Rattle.runs.specs.Gaps.{high, reach}
@@ -45,18 +45,15 @@ loop-j-preserved c =
 
 pub invariant_of-result : goal.invariant_of-result
 invariant_of-result c =
-    let s = c.args.signature.now in
+    let s = c.new.result.signature in
     let l = c.loop-j in
+    let same : c.used_gaps-gaps.result.now ≡ gaps_of s = c.used_gaps-gaps.ensures ∙ ap gaps_of (sym c.new.ensures) in
     let n = gaps_length s in
-    let same = ap length c.used_gaps-gaps.ensures in
-    let e : l.j ≡ s.slots - 1 = omega (arith, c.loop-j-test.false, l.auto.j-end) in
-    let J : ℕ → Type 0 = λ j. Laid (gaps_of s) j l.at l.keep l.starts l.windows in
-    let G : List Gap → Type 0 = λ gs. Laid gs l.j l.at l.keep l.starts l.windows in
-    let laid : J (s.slots - 1) = subst J e (subst G c.used_gaps-gaps.ensures l.invariant) in
-    let room : offset (gaps_of s) (s.slots - 1) ≤ 63 = omega (arith, ap (offset (gaps_of s)) n, spans_offset (gaps_of s), c.requires) in
+    let e : l.j ≡ s.slots - 1 = omega (arith, c.loop-j-test.false, l.auto.j-end, ap length same) in
+    let laid : Laid (gaps_of s) (s.slots - 1) l.at l.keep l.starts l.windows =
+    subst (λ j. Laid (gaps_of s) j l.at l.keep l.starts l.windows) e (subst (λ (gs : List Gap). Laid gs l.j l.at l.keep l.starts l.windows) same l.invariant) in
     record {
-      room = room;
-      after = c.later_slots.ensures;
+      room = omega (arith, ap (offset (gaps_of s)) n, spans_offset (gaps_of s), ap (λ (s : Signature). reach (gaps_of s)) c.new.ensures, c.requires);
       begun = laid.begun;
       idle = laid.idle;
       opened = laid.opened;

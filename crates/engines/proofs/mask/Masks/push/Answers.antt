@@ -1,21 +1,17 @@
-use Rattle.std.proofs.Common.{◌-◌, ◌<◌, ◌≤◌, length, refl, ap, arith, rules}
+use Rattle.std.proofs.Common.{◌≡◌, ◌-◌, length, ap, ◌∙◌, arith}
+use lib.Bits.{bit_or}
 use Rattle.engines.proofs.Masked.{shifted_none, shifted_more, shifted_all}
 use Rattle.engines.proofs.Signatures.{gaps_length}
 use Rattle.engines.proofs.mask.Masks.push.Goals as goal
 
 pub loop-j-init : goal.loop-j-init
-loop-j-init c = (refl, shifted_none _ _ (search rules))
+loop-j-init c = shifted_none _ _
 
 pub loop-j-preserved : goal.loop-j-preserved
-loop-j-preserved c =
-    let inv = c.loop-j.invariant in
-    let s = c.args.self.now.windows.signature in
-    let lt : c.loop-j.j < 31 = omega (arith, gaps_length s, ap length c.used_gaps-j-end.ensures, s.few) in
-    (inv.0, shifted_more _ _ _ _ lt inv.1)
+loop-j-preserved c = shifted_more _ _ _ _ _ _ (omega arith) c.bears.ensures (ap (bit_or _) c.from.ensures) c.loop-j.invariant
 
-pub returns : goal.returns
-returns c =
-    let inv = c.loop-j.invariant in
-    let s = c.args.self.now.windows.signature in
-    let all : s.slots - 1 ≤ c.loop-j.j = omega (arith, gaps_length s, ap length c.used_gaps-j-end.ensures) in
-    record { windows = inv.0; memory = shifted_all s _ _ _ _ all inv.1 }
+pub returns-clause-memory : goal.returns-clause-memory
+returns-clause-memory c =
+    let s = c.args.self.now.windows.shape.signature in
+    let used : length c.used_gaps-used.result.now ≡ s.slots - 1 = ap length c.used_gaps-used.ensures ∙ gaps_length s in
+    shifted_all s _ _ _ _ _ _ used (omega (arith, s.few)) c.loop-j-test.false c.loop-j.invariant

@@ -7,4 +7,4 @@ use Rattle.engines.proofs.mask.MasksEngine.resume.Given as goal
 abbrev pub invariant-loop-word : goal.invariant-loop-word
 invariant-loop-word l =
     (l.self.windows ≡ l.initial.self.windows)
-    × Recalls l.initial.self.windows.signature (take l.word-index l.word-items) (masks_say l.self.masks)
+    × Recalls l.initial.self.windows.shape.signature (take l.word-index l.word-items) (masks_say l.self.masks)

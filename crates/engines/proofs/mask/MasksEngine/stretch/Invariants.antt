@@ -1,13 +1,12 @@
-use Rattle.std.proofs.Common.{◌≡◌, ℕ, ◌≤◌, List, get_or}
-use Rattle.engines.specs.Memory.{Memory, Steps}
+use Rattle.std.proofs.Common.{◌≡◌, ℕ, ◌≤◌, get_or}
+use Rattle.engines.specs.Memory.{Steps}
 use Rattle.engines.specs.Masked.{masks_say}
 use Rattle.engines.proofs.mask.MasksEngine.stretch.Given as goal
 
--- the words before i are made, whatever steps came before the loop, and the fits from i on are as they were
-abbrev pub invariant-loop-i : goal.invariant-loop-i
-invariant-loop-i l =
-    let s = l.initial.self.windows.signature in
-    (l.self.windows.signature ≡ s)
-    × ((fits : List ℕ) (says : Memory) → Steps s fits l.initial.words says l.initial.i (masks_say l.initial.self.masks)
-    → ((k : ℕ) → l.initial.i ≤ k → get_or l.initial.words k 0 ≡ get_or fits k 0) → Steps s fits l.words says l.i (masks_say l.self.masks))
-    × ((k : ℕ) → l.i ≤ k → get_or l.words k 0 ≡ get_or l.initial.words k 0)
+-- past the strips the words before the index are made, and the fits from it on are as they were
+abbrev pub invariant-loop-word : goal.invariant-loop-word
+invariant-loop-word l =
+    let s = l.fn.self.windows.shape.signature in
+    (l.self.windows.shape.signature ≡ s)
+    × Steps s l.initial.word-items l.word-items (masks_say l.initial.self.masks) l.word-index (masks_say l.self.masks)
+    × ((k : ℕ) → l.word-index ≤ k → get_or l.word-items k 0 ≡ get_or l.initial.word-items k 0)

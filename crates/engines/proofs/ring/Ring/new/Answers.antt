@@ -1,5 +1,5 @@
 use Rattle.engines.proofs.Rings.{past_blank}
 use Rattle.engines.proofs.ring.Ring.new.Goals as goal
 
-pub returns : goal.returns
-returns c = record { shape = c.new-signature.ensures; memory = past_blank 0 }
+pub returns-clause-memory : goal.returns-clause-memory
+returns-clause-memory c = past_blank 0

@@ -1,38 +1,27 @@
-use Rattle.std.proofs.Common.{refl, ap, arith}
-use Rattle.std.proofs.lemmas.Bool.{both_ways, false≢true}
+use Rattle.std.proofs.Common.{ℕ, ◌+◌, ◌-◌, ◌≤◌, Bool, ap, arith, rules, of_calls, refl, sym, ◌∙◌}
+use Rattle.std.proofs.lemmas.Iterator.{serves_from_Range, YieldsList-from_range}
+use Rattle.std.proofs.lemmas.Iterator.Search.{any_from_yields_List}
 use Rattle.runs.specs.declared.gap.Gap.{Gap}
-use Rattle.engines.proofs.Bits.{bit_on}
-use Rattle.engines.proofs.Rings.{none_more}
-use Rattle.engines.proofs.Signatures.{gap_ordered, gap_narrow}
+use Rattle.engines.specs.Rings.{past_says}
+use Rattle.engines.proofs.Rings.{any_from}
+use Rattle.engines.proofs.Signatures.{gap_narrow}
 use Rattle.engines.proofs.ring.Ring.seen.Goals as goal
 
-pub loop-d-init : goal.loop-d-init
-loop-d-init c = λ e l h. let z : ⊥ = omega (arith, ap (λ (g : Gap). g.lo) c.gap_at-gap.ensures) in absurd z
+pub any-requires-clause-callable : goal.any-requires-clause-callable
+any-requires-clause-callable c =
+    let narrow : c.gap_at-gap.result.hi ≤ 63 = omega (arith, ap (λ (g : Gap). g.hi) c.gap_at-gap.ensures, gap_narrow c.args.self.now.shape.signature c.args.j c.requires) in
+    serves_from_Range (λ x q h. search (rules, of_calls)) (λ x l h. search (rules, of_calls))
 
-pub overflow_sub-word : goal.overflow_sub-word
-overflow_sub-word c =
-    let s = c.args.self.now.signature in
-    let gap = c.gap_at-gap.ensures in
-    omega (arith, c.loop-d-test.true, ap (λ (g : Gap). g.lo) gap, ap (λ (g : Gap). g.hi) gap, gap_ordered s c.args.j c.requires, gap_narrow s c.args.j c.requires)
-
-pub loop-d-preserved : goal.loop-d-preserved
-loop-d-preserved c = none_more _ _ _ _ _ c.loop-d.invariant c.if-word-j-eq1.false
-
-pub returns-then-word-j-eq1 : goal.returns-then-word-j-eq1
-returns-then-word-j-eq1 c =
-    let gap = c.gap_at-gap.ensures in (
-      (λ _. (
-        c.loop-d.d,
-        omega (arith, ap (λ (g : Gap). g.lo) gap, c.loop-d.auto.d),
-        omega (arith, ap (λ (g : Gap). g.hi) gap, c.loop-d-test.true),
-        bit_on _ _ c.if-word-j-eq1.true,
-      )),
-      (λ _. refl),
-    )
-
-pub returns-else-word-j-eq1 : goal.returns-else-word-j-eq1
-returns-else-word-j-eq1 c =
-    let gap = c.gap_at-gap.ensures in (
-      (λ e. absurd (false≢true e)),
-      (λ seen. absurd (both_ways _ (none_more _ _ _ _ _ c.loop-d.invariant c.if-word-j-eq1.false seen.0 seen.1 (omega (arith, seen.2, ap (λ (g : Gap). g.hi) gap))) seen.3)),
+pub returns : goal.returns
+returns c =
+    let me = c.args.self.now in
+    let gap = c.gap_at-gap.result in
+    let says : ℕ → Bool = λ d. past_says me.past me.next c.args.j d in
+    let found = any_from_yields_List says _ _ c.any.result c.any.ensures.ran (YieldsList-from_range gap.lo (gap.hi + 1) (gap.hi + 1 - gap.lo) refl refl) (λ x b q h. search (rules, of_calls)) in
+    let tells = any_from says gap.lo (gap.hi + 1 - gap.lo) in
+    let g = c.gap_at-gap.ensures in
+    let lo = ap (λ (g : Gap). g.lo) g in
+    let hi = ap (λ (g : Gap). g.hi) g in (
+      (λ b. let r = tells.0 (sym found ∙ b) in (r.0, omega (arith, r.1, lo), omega (arith, r.2, hi), r.3)),
+      (λ h. found ∙ tells.1 (h.0, omega (arith, h.1, lo), omega (arith, h.2, hi), h.3)),
     )

@@ -1,31 +1,20 @@
-use Rattle.std.proofs.Common.{◌≡◌, ℕ, ◌-◌, ◌%◌, ◌≤◌, List, length, take, drop, refl, subst, arith, length-drop}
+use Rattle.std.proofs.Common.{◌≡◌, ◌-◌, ◌%◌, ◌≤◌, List, ◌++◌, ℕ, length, take, drop, replicate, subst, sym, arith, length-drop}
 use Rattle.std.proofs.lemmas.List.{take_rest}
-use Rattle.engines.proofs.Recalled.{recalls_recent}
 use Rattle.engines.specs.Memory.{Recalls}
 use Rattle.engines.specs.Rings.{past_says}
-use Rattle.engines.proofs.Rings.{Copied, copied_none, copied_more, copied_all}
+use Rattle.engines.proofs.Recalled.{recalls_recent}
+use Rattle.engines.proofs.Rings.{padded_recalls}
 use Rattle.engines.proofs.ring.RingEngine.resume.Goals as goal
 
--- the slice has 64 words at most
-few : (ws : List ℕ) (n : ℕ) → n ≡ length ws - 64 → length (take (length ws - n) (drop n ws)) ≤ 64
-few ws n e = simp (take_rest, length-drop) (omega arith)
-
-pub loop-i-init : goal.loop-i-init
-loop-i-init c = copied_none _
-
-pub loop-i-preserved : goal.loop-i-preserved
-loop-i-preserved c = copied_more _ _ _ (omega (arith, few c.args.words.now _ c.saturating_sub.ensures, c.loop-i-test.true)) c.loop-i.invariant
-
-pub returns : goal.returns
-returns c =
-    let s = c.args.self.now.signature in
+pub returns-clause-memory : goal.returns-clause-memory
+returns-clause-memory c =
+    let s = c.args.self.now.shape.signature in
     let ws = c.args.words.now in
     let n = c.saturating_sub.result in
     let recent = take (length ws - n) (drop n ws) in
-    let past = c.loop-i.past in
-    let all : c.loop-i.i ≡ length recent = omega (arith, c.loop-i-test.false, c.loop-i.auto.i-end) in
-    let have = copied_all s recent past (few ws n c.saturating_sub.ensures) (subst (λ i. Copied recent i past) all c.loop-i.invariant) in
-    record {
-      shape = refl;
-      memory = recalls_recent s ws n _ c.saturating_sub.ensures (subst (λ (xs : List ℕ). Recalls s xs (past_says past (length recent % 64))) (take_rest ws n) have);
-    }
+    let few : length recent ≤ 64 = simp (take_rest, length-drop) (omega arith) in
+    let copied : c.copy_from_slice.new.self ≡ recent = c.copy_from_slice.ensures.after in
+    let past : List ℕ → List ℕ = λ words. words ++ drop (length recent) (replicate 64 0) in
+    let have : Recalls s recent (past_says (past recent) (length recent % 64)) = padded_recalls s recent few in
+    subst (λ (words : List ℕ). Recalls s ws (past_says (past words) (length recent % 64))) (sym copied)
+    (recalls_recent s ws n _ c.saturating_sub.ensures (subst (λ (xs : List ℕ). Recalls s xs (past_says (past recent) (length recent % 64))) (take_rest ws n) have))

@@ -6,20 +6,20 @@ use Rattle.engines.proofs.Recalled.{recalls_none, recalls_more, recalls_all, mov
 use Rattle.engines.proofs.word.WordEngine.resume.Goals as goal
 
 pub loop-word-init : goal.loop-word-init
-loop-word-init c = (refl, recalls_none c.args.self.now.layout.signature _ (λ j d. bit_zero (offset _ j + d)))
+loop-word-init c = (refl, recalls_none c.args.self.now.layout.shape.signature _ (λ j d. bit_zero (offset _ j + d)))
 
 pub loop-word-preserved : goal.loop-word-preserved
 loop-word-preserved c =
     let inv = c.loop-word.invariant in
     let p = c.push.ensures in (
       p.layout ∙ inv.0,
-      recalls_more c.args.self.now.layout.signature _ _ _ _ c.loop-word-test.true inv.1 (moved_shape _ _ _ _ _ (ap (λ (l : Layout). l.signature) inv.0) p.memory),
+      recalls_more c.args.self.now.layout.shape.signature _ _ _ _ c.loop-word-test.true inv.1 (moved_shape _ _ _ _ _ (ap (λ (l : Layout). l.shape.signature) inv.0) p.memory),
     )
 
 pub returns : goal.returns
 returns c =
     let inv = c.loop-word.invariant in
     record {
-      shape = ap (λ (l : Layout). l.signature) inv.0;
-      memory = recalls_all c.args.self.now.layout.signature _ _ _ _ c.saturating_sub-from.ensures c.loop-word-test.false inv.1;
+      shape = ap (λ (l : Layout). l.shape.signature) inv.0;
+      memory = recalls_all c.args.self.now.layout.shape.signature _ _ _ _ c.saturating_sub-from.ensures c.loop-word-test.false inv.1;
     }

@@ -8,4 +8,4 @@ use Rattle.engines.proofs.word.WordEngine.resume.Given as goal
 abbrev pub invariant-loop-word : goal.invariant-loop-word
 invariant-loop-word l =
     (l.self.layout ≡ l.initial.self.layout)
-    × Recalls l.initial.self.layout.signature (take l.word-index l.word-items) (fields_say (gaps_of l.self.layout.signature) l.self.memory)
+    × Recalls l.initial.self.layout.shape.signature (take l.word-index l.word-items) (fields_say (gaps_of l.self.layout.shape.signature) l.self.memory)
