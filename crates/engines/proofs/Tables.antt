@@ -1,9 +1,9 @@
 -- The numbers of rows and columns of each stage, by tests that are computed.
-use Rattle.std.proofs.Common.{◌≡◌, ℕ, zero, suc, ◌+◌, ◌-◌, ◌*◌, ◌/◌, ◌%◌, ◌<◌, ◌≤◌, Bool, true, false, T, eqb, ltb, leb, ◌⊎◌, refl, subst, inl, inr, ⊎_elim, arith, eqb→eq, ltb→lt, leb→le}
+use Rattle.std.proofs.Common.{◌≡◌, ℕ, zero, suc, ◌+◌, ◌-◌, ◌*◌, ◌/◌, ◌%◌, ◌^◌, ◌<◌, ◌≤◌, Bool, true, false, T, eqb, ltb, leb, ◌⊎◌, refl, subst, inl, inr, ⊎_elim, arith, eqb→eq, ltb→lt, leb→le}
 use Rattle.std.proofs.lemmas.Bool.{cases_lt}
 use Rattle.runs.specs.Bits.{bit}
-use Rattle.engines.specs.Turns.{Width, MaskOf}
-use Rattle.engines.specs.Turns.Width.{wide_16, wide_8, wide_4, wide_2, wide_1, byte_4, byte_2, byte_1}
+use Rattle.engines.specs.Turns.{Stage, MaskOf}
+use Rattle.engines.specs.Turns.Stage.{wide_16, wide_8, wide_4, wide_2, wide_1, narrow_4, narrow_2, narrow_1}
 
 abbrev pub both : Bool → Bool → Bool
 both true b = b
@@ -49,41 +49,32 @@ abbrev pub pair_of : ℕ → ℕ → ℕ
 pair_of by q = q / (2 * by) * by + q % by
 
 abbrev row_test : ℕ → ℕ → ℕ → Bool
-row_test pairs by q = both (ltb (pair_of by q) pairs) (either (eqb q (pair by (pair_of by q))) (eqb q (pair by (pair_of by q) + by)))
+row_test n by q = both (ltb (pair_of by q) (n / 2)) (either (eqb q (pair by (pair_of by q))) (eqb q (pair by (pair_of by q) + by)))
 
 abbrev pair_test : ℕ → ℕ → ℕ → Bool
-pair_test pairs by i =
-    both (ltb (pair by i + by) (2 * pairs))
+pair_test n by i =
+    both (both (leb (i % by) (2 * i)) (ltb (pair by i + by) n))
     (both (both (eqb (pair_of by (pair by i)) i) (eqb (pair_of by (pair by i + by)) i)) (both (eqb (pair by i / by % 2) 0) (eqb ((pair by i + by) / by % 2) 1)))
 
 abbrev column_test : ℕ → ℕ → Bool
 column_test by c =
     either (both (eqb (c / by % 2) 0) (either (ltb c by) (eqb ((c - by) / by % 2) 1))) (both (eqb (c / by % 2) 1) (both (leb by c) (eqb ((c - by) / by % 2) 0)))
 
--- row i of a block has the upper row of the pair by * block + i
-abbrev in_block : ℕ → ℕ → ℕ → ℕ → Bool
-in_block pairs by block i = both (ltb (by * block + i) pairs) (eqb (2 * by * block + i) (pair by (by * block + i)))
-
-abbrev block_test : ℕ → ℕ → ℕ → Bool
-block_test pairs by block = both (eqb (by * block + by) (by * (block + 1))) (every (in_block pairs by block) by)
-
 abbrev size_test : ℕ → ℕ → Bool
-size_test pairs by = both (ltb 0 by) (both (ltb by 64) (leb pairs 16))
+size_test n by = both (leb n 32) (both (ltb 0 by) (ltb by 64))
 
 abbrev test : ℕ → ℕ → Bool
-test blocks by =
-    let pairs = by * blocks in
-    both (size_test pairs by) (both (every (row_test pairs by) (2 * pairs)) (both (every (pair_test pairs by) pairs) (both (every (column_test by) 64) (every (block_test pairs by) blocks))))
+test n by = both (size_test n by) (both (every (row_test n by) n) (both (every (pair_test n by) (n / 2)) (every (column_test by) 64)))
 
-passes : (blocks by : ℕ) → Width blocks by → T (test blocks by)
+passes : (n by : ℕ) → Stage n by → T (test n by)
 passes _ _ wide_16 = tt
 passes _ _ wide_8 = tt
 passes _ _ wide_4 = tt
 passes _ _ wide_2 = tt
 passes _ _ wide_1 = tt
-passes _ _ byte_4 = tt
-passes _ _ byte_2 = tt
-passes _ _ byte_1 = tt
+passes _ _ narrow_4 = tt
+passes _ _ narrow_2 = tt
+passes _ _ narrow_1 = tt
 
 -- a mask is that of a stage where each of its bits is
 abbrev same : Bool → Bool → Bool
@@ -100,79 +91,76 @@ same_eq false false t = refl
 abbrev mask_test : ℕ → ℕ → ℕ → Bool
 mask_test by mask c = same (bit mask c) (eqb (c / by % 2) 0)
 
-pub mask_of : (by mask : ℕ) → T (every (mask_test by mask) 64) → MaskOf by mask
+mask_of : (by mask : ℕ) → T (every (mask_test by mask) 64) → MaskOf by mask
 mask_of by mask t c l = same_eq (bit mask c) (eqb (c / by % 2) 0) (at (mask_test by mask) 64 t c l)
 
-module _ (blocks by : ℕ) (w : Width blocks by) where
-  abbrev pairs : ℕ
-  pairs = by * blocks
+module _ (n by : ℕ) (w : Stage n by) where
+  size : T (size_test n by)
+  size = both_left (size_test n by) _ (passes n by w)
 
-  size : T (size_test pairs by)
-  size = both_left (size_test pairs by) _ (passes blocks by w)
+  pub few : n ≤ 32
+  few = leb→le n 32 (both_left (leb n 32) _ size)
 
   pub pos : 0 < by
-  pos = ltb→lt 0 by (both_left (ltb 0 by) _ size)
+  pos = ltb→lt 0 by (both_left (ltb 0 by) _ (both_right (leb n 32) _ size))
 
   pub small : by < 64
-  small = ltb→lt by 64 (both_left (ltb by 64) _ (both_right (ltb 0 by) _ size))
+  small = ltb→lt by 64 (both_right (ltb 0 by) _ (both_right (leb n 32) _ size))
 
-  pub most : pairs ≤ 16
-  most = leb→le pairs 16 (both_right (ltb by 64) _ (both_right (ltb 0 by) _ size))
+  of_rows : T (both (every (row_test n by) n) (both (every (pair_test n by) (n / 2)) (every (column_test by) 64)))
+  of_rows = both_right (size_test n by) _ (passes n by w)
 
-  of_rows : T (both (every (row_test pairs by) (2 * pairs)) (both (every (pair_test pairs by) pairs) (both (every (column_test by) 64) (every (block_test pairs by) blocks))))
-  of_rows = both_right (size_test pairs by) _ (passes blocks by w)
+  of_pairs : T (both (every (pair_test n by) (n / 2)) (every (column_test by) 64))
+  of_pairs = both_right (every (row_test n by) n) _ of_rows
 
-  of_pairs : T (both (every (pair_test pairs by) pairs) (both (every (column_test by) 64) (every (block_test pairs by) blocks)))
-  of_pairs = both_right (every (row_test pairs by) (2 * pairs)) _ of_rows
+  at_row : (q : ℕ) → q < n → T (row_test n by q)
+  at_row = at (row_test n by) n (both_left (every (row_test n by) n) _ of_rows)
 
-  of_columns : T (both (every (column_test by) 64) (every (block_test pairs by) blocks))
-  of_columns = both_right (every (pair_test pairs by) pairs) _ of_pairs
-
-  at_row : (q : ℕ) → q < 2 * pairs → T (row_test pairs by q)
-  at_row = at (row_test pairs by) (2 * pairs) (both_left (every (row_test pairs by) (2 * pairs)) _ of_rows)
-
-  at_pair : (i : ℕ) → i < pairs → T (pair_test pairs by i)
-  at_pair = at (pair_test pairs by) pairs (both_left (every (pair_test pairs by) pairs) _ of_pairs)
+  at_pair : (i : ℕ) → i < n / 2 → T (pair_test n by i)
+  at_pair = at (pair_test n by) (n / 2) (both_left (every (pair_test n by) (n / 2)) _ of_pairs)
 
   at_column : (c : ℕ) → c < 64 → T (column_test by c)
-  at_column = at (column_test by) 64 (both_left (every (column_test by) 64) _ of_columns)
-
-  at_block : (b : ℕ) → b < blocks → T (block_test pairs by b)
-  at_block = at (block_test pairs by) blocks (both_right (every (column_test by) 64) _ of_columns)
+  at_column = at (column_test by) 64 (both_right (every (pair_test n by) (n / 2)) _ of_pairs)
 
   -- a row is the upper or the lower one of its pair
-  pub names : (q : ℕ) → q < 2 * pairs → (q ≡ pair by (pair_of by q)) ⊎ (q ≡ pair by (pair_of by q) + by)
+  pub names : (q : ℕ) → q < n → (q ≡ pair by (pair_of by q)) ⊎ (q ≡ pair by (pair_of by q) + by)
   names q l = ⊎_elim
       (λ (t : T (eqb q (pair by (pair_of by q)))). inl (eqb→eq _ _ t))
       (λ (t : T (eqb q (pair by (pair_of by q) + by))). inr (eqb→eq _ _ t))
-      (either_of (eqb q (pair by (pair_of by q))) (eqb q (pair by (pair_of by q) + by)) (both_right (ltb (pair_of by q) pairs) _ (at_row q l)))
+      (either_of (eqb q (pair by (pair_of by q))) (eqb q (pair by (pair_of by q) + by)) (both_right (ltb (pair_of by q) (n / 2)) _ (at_row q l)))
 
-  pub of_in : (q : ℕ) → q < 2 * pairs → pair_of by q < pairs
-  of_in q l = ltb→lt _ _ (both_left (ltb (pair_of by q) pairs) _ (at_row q l))
+  pub of_in : (q : ℕ) → q < n → pair_of by q < n / 2
+  of_in q l = ltb→lt _ _ (both_left (ltb (pair_of by q) (n / 2)) _ (at_row q l))
 
-  pub inside : (i : ℕ) → i < pairs → pair by i + by < 2 * pairs
-  inside i l = ltb→lt _ _ (both_left (ltb (pair by i + by) (2 * pairs)) _ (at_pair i l))
+  in_pair : (i : ℕ) → i < n / 2 → T (both (leb (i % by) (2 * i)) (ltb (pair by i + by) n))
+  in_pair i l = both_left (both (leb (i % by) (2 * i)) (ltb (pair by i + by) n)) _ (at_pair i l)
 
-  more_pair : (i : ℕ) → i < pairs
+  pub starts : (i : ℕ) → i < n / 2 → i % by ≤ 2 * i
+  starts i l = leb→le _ _ (both_left (leb (i % by) (2 * i)) _ (in_pair i l))
+
+  pub inside : (i : ℕ) → i < n / 2 → pair by i + by < n
+  inside i l = ltb→lt _ _ (both_right (leb (i % by) (2 * i)) _ (in_pair i l))
+
+  more_pair : (i : ℕ) → i < n / 2
       → T (both (both (eqb (pair_of by (pair by i)) i) (eqb (pair_of by (pair by i + by)) i)) (both (eqb (pair by i / by % 2) 0) (eqb ((pair by i + by) / by % 2) 1)))
-  more_pair i l = both_right (ltb (pair by i + by) (2 * pairs)) _ (at_pair i l)
+  more_pair i l = both_right (both (leb (i % by) (2 * i)) (ltb (pair by i + by) n)) _ (at_pair i l)
 
-  numbers : (i : ℕ) → i < pairs → T (both (eqb (pair_of by (pair by i)) i) (eqb (pair_of by (pair by i + by)) i))
+  numbers : (i : ℕ) → i < n / 2 → T (both (eqb (pair_of by (pair by i)) i) (eqb (pair_of by (pair by i + by)) i))
   numbers i l = both_left (both (eqb (pair_of by (pair by i)) i) (eqb (pair_of by (pair by i + by)) i)) _ (more_pair i l)
 
-  sides : (i : ℕ) → i < pairs → T (both (eqb (pair by i / by % 2) 0) (eqb ((pair by i + by) / by % 2) 1))
+  sides : (i : ℕ) → i < n / 2 → T (both (eqb (pair by i / by % 2) 0) (eqb ((pair by i + by) / by % 2) 1))
   sides i l = both_right (both (eqb (pair_of by (pair by i)) i) (eqb (pair_of by (pair by i + by)) i)) _ (more_pair i l)
 
-  pub of_upper : (i : ℕ) → i < pairs → pair_of by (pair by i) ≡ i
+  pub of_upper : (i : ℕ) → i < n / 2 → pair_of by (pair by i) ≡ i
   of_upper i l = eqb→eq _ _ (both_left (eqb (pair_of by (pair by i)) i) _ (numbers i l))
 
-  pub of_lower : (i : ℕ) → i < pairs → pair_of by (pair by i + by) ≡ i
+  pub of_lower : (i : ℕ) → i < n / 2 → pair_of by (pair by i + by) ≡ i
   of_lower i l = eqb→eq _ _ (both_right (eqb (pair_of by (pair by i)) i) _ (numbers i l))
 
-  pub upper : (i : ℕ) → i < pairs → pair by i / by % 2 ≡ 0
+  pub upper : (i : ℕ) → i < n / 2 → pair by i / by % 2 ≡ 0
   upper i l = eqb→eq _ _ (both_left (eqb (pair by i / by % 2) 0) _ (sides i l))
 
-  pub lower : (i : ℕ) → i < pairs → (pair by i + by) / by % 2 ≡ 1
+  pub lower : (i : ℕ) → i < n / 2 → (pair by i + by) / by % 2 ≡ 1
   lower i l = eqb→eq _ _ (both_right (eqb (pair by i / by % 2) 0) _ (sides i l))
 
   -- a column is on the left with none before it, or one on the right, or on the right
@@ -193,18 +181,6 @@ module _ (blocks by : ℕ) (w : Width blocks by) where
       ))
       (either_of (both (eqb (c / by % 2) 0) (either (ltb c by) (eqb ((c - by) / by % 2) 1))) (both (eqb (c / by % 2) 1) (both (leb by c) (eqb ((c - by) / by % 2) 0))) (at_column c l))
 
-  -- the pairs of a block
-  pub next_block : (b : ℕ) → b < blocks → by * b + by ≡ by * (b + 1)
-  next_block b l = eqb→eq _ _ (both_left (eqb (by * b + by) (by * (b + 1))) _ (at_block b l))
-
-  at_place : (b i : ℕ) → b < blocks → i < by → T (in_block pairs by b i)
-  at_place b i lb li = at (in_block pairs by b) by (both_right (eqb (by * b + by) (by * (b + 1))) _ (at_block b lb)) i li
-
-  pub block_in : (b i : ℕ) → b < blocks → i < by → by * b + i < pairs
-  block_in b i lb li = ltb→lt _ _ (both_left (ltb (by * b + i) pairs) _ (at_place b i lb li))
-
-  pub block_row : (b i : ℕ) → b < blocks → i < by → 2 * by * b + i ≡ pair by (by * b + i)
-  block_row b i lb li = eqb→eq _ _ (both_right (ltb (by * b + i) pairs) _ (at_place b i lb li))
-
-  pub block_most : (b i : ℕ) → b < blocks → i < by → 2 * by * b + i + by < 32
-  block_most b i lb li = omega (arith, block_row b i lb li, inside (by * b + i) (block_in b i lb li), most)
+  -- what a call of the stage with a mask asks
+  pub ready : (mask : ℕ) → T (every (mask_test by mask) 64) → (n * 8 < 2 ^ 63) × (Stage n by × MaskOf by mask)
+  ready mask t = (omega (arith, few), (w, mask_of by mask t))
