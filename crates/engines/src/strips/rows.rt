@@ -49,8 +49,8 @@ pub(crate) fn unload<const W: usize>(rows: &[u64; W], strip: &mut [u32; 64])
 }
 
 // Whether no row has a bit.
-pub(crate) fn is_blank<const W: usize>(rows: &[u64; W]) -> bool
-    ensures { result ≡ true → Blank rows.now W }
+pub(crate) fn is_blank(rows: &[u64]) -> bool
+    ensures { result ≡ true → Blank rows.now }
 {
-    rows.iter().all(|row| *row == 0)
+    rows.iter().fold(0, |any, row| any | *row) == 0
 }
