@@ -26,7 +26,9 @@ fn stage<const W: usize>(rows: &mut [u64; W], by: usize, mask: u64)
     }
 }
 
-// The squares of W columns in W rows.
+// The squares of W columns in W rows. Out of line the rows lie in memory to the compiler, which then makes vector code
+// of the swaps: in line a strip of 8 slots takes 0.1 ns a reading more, of 2.2.
+#[inline(never)]
 pub(crate) fn turn<const W: usize>(rows: &mut [u64; W])
     requires { Width W }
     ensures { Turned W rows.old rows.new }
