@@ -1,6 +1,6 @@
 -- Words into rows and columns, and back.
-use Rattle.std.proofs.Common.{◌≡◌, ℕ, ◌+◌, ◌-◌, ◌*◌, ◌/◌, ◌%◌, ◌^◌, ◌<◌, ◌≤◌, zero, suc, false, ◌≢◌, ◌⊎◌, List, [], ◌∷◌, fold, length, get_or, set, sym, refl, ap, ◌∙◌, subst, inl, inr, ⊎_elim, arith, length-set, get_or-set_other, get_or-set_same, pow_pos}
-use lib.Bits.{bit_or, or_add_and, and_le_l, and_le_r}
+use Rattle.std.proofs.Common.{◌≡◌, ℕ, ◌+◌, ◌-◌, ◌*◌, ◌/◌, ◌%◌, ◌^◌, ◌<◌, ◌≤◌, false, ◌≢◌, ◌⊎◌, List, length, get_or, set, sym, refl, ap, ◌∙◌, subst, inl, inr, ⊎_elim, arith, length-set, get_or-set_other, get_or-set_same, pow_pos}
+use lib.Bits.{bit_or}
 use Rattle.std.proofs.lemmas.Bool.{cases_lt, cases_eq}
 use Rattle.std.proofs.lemmas.Nat.{mod_below}
 use Rattle.runs.specs.Bits.{bit}
@@ -170,22 +170,10 @@ module _ (w : ℕ) (p : Places w) where
   pub columns_loaded : (strip rows turned : List ℕ) → Loaded w strip w rows → Turned w rows turned → Columns w strip turned
   columns_loaded strip rows turned loaded t j c lj lc = t.all j c lj lc ∙ in_row strip rows loaded j c lj lc
 
-  pub blank_words : (strip rows : List ℕ) → Loaded w strip w rows → Blank rows → (j c : ℕ) → j < w → c < 64 → bit (word_at strip c) j ≡ false
-  blank_words strip rows loaded blank j c lj lc = sym (in_row strip rows loaded j c lj lc) ∙ ap (λ v. bit v (c / w * w + j)) (blank (c % w)) ∙ bit_zero (c / w * w + j)
+  pub blank_words : (strip rows : List ℕ) → Loaded w strip w rows → (n : ℕ) → w ≤ n → Blank rows n → (j c : ℕ) → j < w → c < 64 → bit (word_at strip c) j ≡ false
+  blank_words strip rows loaded n ln blank j c lj lc = sym (in_row strip rows loaded j c lj lc) ∙ ap (λ v. bit v (c / w * w + j)) (blank (c % w) (omega (arith, p.row c lc))) ∙ bit_zero (c / w * w + j)
 
   pub columns_unloaded : (columns rows strip : List ℕ) → Turned w columns rows → Unloaded w rows strip → Columns w strip columns
   columns_unloaded columns rows strip t u j c lj lc =
       let d = c / w * w + j in
       sym (u.all c j lc lj ∙ t.all (c % w) d (p.row c lc) (p.column c j lc lj) ∙ ap (λ i. bit (get_or columns i 0) (d / w * w + c % w)) (p.rest c j lc lj) ∙ ap (bit (get_or columns j 0)) (p.word c j lc lj))
-
--- nothing in either of two numbers, and nothing in a list
-neither : (a b : ℕ) → bit_or a b ≡ 0 → (a ≡ 0) × (b ≡ 0)
-neither a b e = (omega (arith, or_add_and a b, and_le_r a b), omega (arith, or_add_and a b, and_le_l a b))
-
-pub nothing : (xs : List ℕ) (a : ℕ) → fold bit_or a xs ≡ 0 → (a ≡ 0) × ((r : ℕ) → get_or xs r 0 ≡ 0)
-nothing [] a e = (e, λ r. refl)
-nothing (x ∷ xs) a e =
-    let rest = nothing xs (bit_or a x) e in
-    let here = neither a x rest.0 in
-    let each : (r : ℕ) → get_or (x ∷ xs) r 0 ≡ 0 = λ r. elim r as (λ r. get_or (x ∷ xs) r 0 ≡ 0) [ zero ↦ here.1 | suc r ↦ rest.1 r ] in
-    (here.0, each)

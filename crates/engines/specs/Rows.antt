@@ -29,9 +29,9 @@ pub record Unloaded (w : ℕ) (rows strip : List ℕ) : Type 0 where
   pub all : (c j : ℕ) → c < 64 → j < w → bit (word_at strip c) j ≡ bit (slice_index rows (c % w)) (c / w * w + j)
   pub high : (c j : ℕ) → c < 64 → w ≤ j → bit (word_at strip c) j ≡ false
 
--- no row has a bit
-abbrev pub Blank : List ℕ → Type 0
-Blank rows = (r : ℕ) → slice_index rows r ≡ 0
+-- the first n rows have no bits
+abbrev pub Blank : List ℕ → ℕ → Type 0
+Blank rows n = (r : ℕ) → r < n → slice_index rows r ≡ 0
 
 -- column j has bit j of each of the words
 abbrev pub Columns : ℕ → List ℕ → List ℕ → Type 0

@@ -55,6 +55,7 @@ pub(crate) fn mark_strips(signature: &Signature, masks: &mut [u64; 31], words: &
     ensures rest { (k : ℕ) → result ≤ k → slice_index words.new k ≡ slice_index words.old k }
 {
     let strips = words.len() / 64;
+    // By number: after `chunks_exact_mut`, or a walk with `split_first_chunk_mut`, a proof knows no word of the slice.
     for strip in 0..strips {
         let from = 64 * strip;
         mark_strip(signature, masks, &mut words[from..from + 64]);

@@ -1,5 +1,5 @@
 //! The words of a strip as rows of bits, and back. The last word of the strip stands first.
-ghost use Rattle.std.specs.Prelude.{◌≡◌, ◌<◌, true};
+ghost use Rattle.std.specs.Prelude.{◌≡◌, ◌<◌, true, length};
 ghost use Rattle.engines.specs.Rows.{Width, Gathered, Loaded, Spread, Unloaded, Blank};
 
 // The lowest W bits of every W-th word, in one row.
@@ -50,7 +50,7 @@ pub(crate) fn unload<const W: usize>(rows: &[u64; W], strip: &mut [u32; 64])
 
 // Whether no row has a bit.
 pub(crate) fn is_blank(rows: &[u64]) -> bool
-    ensures { result ≡ true → Blank rows.now }
+    ensures { result ≡ true → Blank rows.now (length rows.now) }
 {
-    rows.iter().fold(0, |any, row| any | *row) == 0
+    rows.iter().all(|row| *row == 0)
 }

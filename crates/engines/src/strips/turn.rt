@@ -21,6 +21,7 @@ fn stage<const W: usize>(rows: &mut [u64; W], by: usize, mask: u64)
     requires mask { MaskOf by mask }
     ensures { Exchanged W by rows.old rows.new }
 {
+    // By number: after `chunks_exact_mut` a proof knows no row.
     for pair in 0..W / 2 {
         swap(rows, 2 * pair - pair % by, by, mask);
     }

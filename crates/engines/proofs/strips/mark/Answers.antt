@@ -8,7 +8,7 @@ pub returns-then-is_blank : goal.returns-then-is_blank
 returns-then-is_blank g c =
     let p = places c.requires.width in
     let before = c.args.strip.now in
-    stepped_blank g.row.W c.args.signature.now c.args.masks.now before p.some p.most c.requires.few (blank_words g.row.W p before c.load-rows.result c.load-rows.ensures (c.is_blank.ensures c.if-is_blank.true))
+    stepped_blank g.row.W c.args.signature.now c.args.masks.now before p.some p.most c.requires.few (blank_words g.row.W p before c.load-rows.result c.load-rows.ensures _ (search rules) (c.is_blank.ensures c.if-is_blank.true))
 
 pub returns : goal.returns
 returns g c =
