@@ -1,12 +1,12 @@
 -- Words into rows and columns, and back.
 use Rattle.std.proofs.Common.{◌≡◌, ℕ, ◌+◌, ◌-◌, ◌*◌, ◌/◌, ◌%◌, ◌^◌, ◌<◌, ◌≤◌, false, ◌≢◌, ◌⊎◌, List, length, get_or, set, sym, refl, ap, ◌∙◌, subst, inl, inr, ⊎_elim, arith, length-set, get_or-set_other, get_or-set_same, pow_pos}
 use lib.Bits.{bit_or}
-use Rattle.std.proofs.lemmas.Bool.{cases_lt, cases_eq}
+use Rattle.std.proofs.lemmas.Bool.{cases_lt}
 use Rattle.std.proofs.lemmas.Nat.{mod_below}
 use Rattle.runs.specs.Bits.{bit}
 use Rattle.engines.proofs.Bits.{bit_zero, bit_high, bit_mod, bit_shr, or_off, or_off_left}
 use Rattle.engines.specs.Turns.{Turned}
-use Rattle.engines.specs.Rows.{Width, word_at, Gathered, Loaded, Spread, Unloaded, Blank, Columns}
+use Rattle.engines.specs.Rows.{Width, word_at, Loaded, Spread, Unloaded, Blank, Columns}
 use Rattle.engines.specs.Rows.Width.{narrow, wide}
 use Rattle.engines.proofs.Shifts.{shl_bit, shl_low}
 
@@ -57,40 +57,16 @@ pub record Pieces (w : ℕ) (strip : List ℕ) (r n x : ℕ) : Type 0 where
   pub done : (c : ℕ) → c < 64 → c < w * n → bit x c ≡ bit (word_at strip (c / w * w + r)) (c % w)
   pub rest : (c : ℕ) → c < 64 → w * n ≤ c → bit x c ≡ false
 
-pub pieces_none : (w : ℕ) (strip : List ℕ) (r : ℕ) → Pieces w strip r 0 0
-pieces_none w strip r = record { done = λ c l h. let z : ⊥ = omega arith in absurd z; rest = λ c l h. bit_zero c }
-
 -- every w-th word has been written, for the first n of them
 pub record Spreading (w r x n : ℕ) (before strip : List ℕ) : Type 0 where
   pub row : (c : ℕ) → c < 64 → c < w * n → c % w ≡ r → word_at strip c ≡ x / 2 ^ (c / w * w) % 2 ^ w
   pub others : (c : ℕ) → c < 64 → (w * n ≤ c) ⊎ (c % w ≢ r) → word_at strip c ≡ word_at before c
   pub long : length strip ≡ 64
 
-pub spreading_none : (w r x : ℕ) (strip : List ℕ) → length strip ≡ 64 → Spreading w r x 0 strip strip
-spreading_none w r x strip long = record { row = λ c l h. let z : ⊥ = omega arith in absurd z; others = λ c l h. refl; long = long }
-
 -- the words of the first n rows
 pub record Rows (w : ℕ) (rows : List ℕ) (n : ℕ) (strip : List ℕ) : Type 0 where
   pub each : (c : ℕ) → c < 64 → c % w < n → word_at strip c ≡ get_or rows (c % w) 0 / 2 ^ (c / w * w) % 2 ^ w
   pub long : length strip ≡ 64
-
-pub rows_none : (w : ℕ) (rows strip : List ℕ) → length strip ≡ 64 → Rows w rows 0 strip
-rows_none w rows strip long = record { each = λ c l h. let z : ⊥ = omega arith in absurd z; long = long }
-
-pub rows_more : (w : ℕ) (rows : List ℕ) (n : ℕ) (before strip : List ℕ) → length strip ≡ 64 → Rows w rows n before → Spread w n (get_or rows n 0) before strip → Rows w rows (n + 1) strip
-rows_more w rows n before strip long have new = record {
-  each = λ c lc l. ⊎_elim
-      (λ (e : c % w ≡ n). subst (λ r. word_at strip c ≡ get_or rows r 0 / 2 ^ (c / w * w) % 2 ^ w) (sym e) (new.row c lc e))
-      (λ (ne : c % w ≡ n → ⊥). new.others c lc ne ∙ have.each c lc (omega arith))
-      (cases_eq (c % w) n);
-  long = long;
-}
-
-pub loaded_more : (w : ℕ) (strip : List ℕ) (n : ℕ) (rows : List ℕ) (x : ℕ) → n < length rows → Gathered w strip n x → Loaded w strip n rows → Loaded w strip (n + 1) (set rows n x)
-loaded_more w strip n rows x l row have r lr = ⊎_elim
-    (λ (h : r < n). let ne : r ≢ n = omega arith in subst (Gathered w strip r) (sym (get_or-set_other rows n r x 0 ne)) (have r h))
-    (λ (h : n ≤ r). let q : n ≡ r = omega arith in subst (λ r. Gathered w strip r (get_or (set rows n x) r 0)) q (subst (Gathered w strip n) (sym (get_or-set_same rows n x 0 l)) row))
-    (cases_lt r n)
 
 module _ (w : ℕ) (p : Places w) where
   pub pieces_more : (strip : List ℕ) (r n x : ℕ) → n < 64 / w → r < w → Pieces w strip r n x

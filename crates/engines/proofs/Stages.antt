@@ -1,5 +1,5 @@
 -- A stage: swaps of one pair of rows after another.
-use Rattle.std.proofs.Common.{◌≡◌, ℕ, ◌+◌, ◌-◌, ◌*◌, ◌/◌, ◌%◌, ◌<◌, ◌≤◌, true, false, eqb, ◌≢◌, ◌⊎◌, List, get_or, sym, refl, ap, ◌∙◌, subst, ⊎_elim, arith}
+use Rattle.std.proofs.Common.{◌≡◌, ℕ, ◌+◌, ◌-◌, ◌*◌, ◌/◌, ◌%◌, ◌<◌, ◌≤◌, true, false, eqb, ◌≢◌, ◌⊎◌, List, get_or, sym, ap, ◌∙◌, subst, ⊎_elim, arith}
 use Rattle.std.proofs.lemmas.Bool.{cases_lt}
 use Rattle.runs.specs.Bits.{bit}
 use Rattle.engines.specs.Turns.{Swapped, Stage, MaskOf, row_of, column_of, Exchanged}
@@ -10,9 +10,6 @@ use Rattle.engines.proofs.Tables.{pair, pair_of}
 pub record Partly (n by i : ℕ) (from to : List ℕ) : Type 0 where
   pub done : (q c : ℕ) → q < n → c < 64 → pair_of by q < i → bit (get_or to q 0) c ≡ bit (get_or from (row_of by q c) 0) (column_of by q c)
   pub rest : (q : ℕ) → q < n → i ≤ pair_of by q → get_or to q 0 ≡ get_or from q 0
-
-pub partly_none : (n by : ℕ) (from : List ℕ) → Partly n by 0 from from
-partly_none n by from = record { done = λ q c lq lc l. let z : ⊥ = omega arith in absurd z; rest = λ q lq l. refl }
 
 pub exchanged : (n by : ℕ) (w : Stage n by) (from to : List ℕ) → Partly n by (n / 2) from to → Exchanged n by from to
 exchanged n by w from to p = record { all = λ r c lr lc. p.done r c lr lc (table.of_in n by w r lr) }

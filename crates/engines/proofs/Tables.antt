@@ -21,10 +21,6 @@ pub both_right : (a b : Bool) → T (both a b) → T b
 both_right true b t = t
 both_right false b t = absurd t
 
-pub both_of : (a b : Bool) → T a → T b → T (both a b)
-both_of true b s t = t
-both_of false b s t = s
-
 either_of : (a b : Bool) → T (either a b) → T a ⊎ T b
 either_of true b t = inl tt
 either_of false b t = inr t
