@@ -1,4 +1,4 @@
-use Rattle.std.proofs.Common.{◌≤◌, [], ◌∷◌, sym, subst, arith}
+use Rattle.std.proofs.Common.{refl, ◌≤◌, [], ◌∷◌, sym, subst, arith}
 use Rattle.engines.proofs.Tables.{ready}
 use Rattle.engines.proofs.Turns.{Stages, stage_16, stage_8, stage_4, stage_2, stage_1, turned_wide, turned_narrow}
 use Rattle.engines.proofs.Turns.Stages.{none, more}
@@ -6,19 +6,19 @@ use Rattle.engines.proofs.strips.turn.turn.Goals as goal
 use Rattle.engines.proofs.strips.turn.turn.Goals.{then-this-gt8, else-this-gt8}
 
 pub stage-requires : goal.stage-requires
-stage-requires g c = ready g.row.W 16 (stage_16 g.row.W c.requires c.if-this-gt8.true) _ tt
+stage-requires g c = ready g.row.W 16 (stage_16 g.row.W c.requires c.if-this-gt8.true) _ refl
 
 pub stage-requires-then-this-gt8 : goal.stage-requires-then-this-gt8
-stage-requires-then-this-gt8 g c = ready g.row.W 8 (stage_8 g.row.W c.requires c.if-this-gt8.true) _ tt
+stage-requires-then-this-gt8 g c = ready g.row.W 8 (stage_8 g.row.W c.requires c.if-this-gt8.true) _ refl
 
 pub stage-requires-2 : goal.stage-requires-2
-stage-requires-2 g c = ready g.row.W 4 (stage_4 g.row.W c.requires) _ tt
+stage-requires-2 g c = ready g.row.W 4 (stage_4 g.row.W c.requires) _ refl
 
 pub stage-requires-3 : goal.stage-requires-3
-stage-requires-3 g c = ready g.row.W 2 (stage_2 g.row.W c.requires) _ tt
+stage-requires-3 g c = ready g.row.W 2 (stage_2 g.row.W c.requires) _ refl
 
 pub stage-requires-4 : goal.stage-requires-4
-stage-requires-4 g c = ready g.row.W 1 (stage_1 g.row.W c.requires) _ tt
+stage-requires-4 g c = ready g.row.W 1 (stage_1 g.row.W c.requires) _ refl
 
 pub returns : goal.returns
 returns g c = elim c.if-this-gt8.branch [
