@@ -38,14 +38,15 @@ module _ (s : Signature) where
       (subst (λ y. Moved s next y after) v moved))
 
   -- one strip more, in place of its fits
-  pub steps_strip : (fits words strip : List ℕ) (says : Memory) (masks after : List ℕ) (n : ℕ) → n + 64 ≤ length words → length strip ≡ 64 → Steps s fits words says n (masks_say masks)
-      → ((k : ℕ) → n ≤ k → get_or words k 0 ≡ get_or fits k 0) → Stepped64 s (mid_of n 64 words) strip masks after → Steps s fits (put_mid n 64 words strip) says (n + 64) (masks_say after)
-  steps_strip fits words strip says masks after n room long first rest stepped =
-      let new = put_mid n 64 words strip in
+  pub steps_strip : (fits words strip : List ℕ) (says : Memory) (masks after : List ℕ) (n k : ℕ) → k ≡ 64 → n + 64 ≤ length words → length strip ≡ 64
+      → Steps s fits words says n (masks_say masks) → ((i : ℕ) → n ≤ i → get_or words i 0 ≡ get_or fits i 0) → Stepped64 s (mid_of n k words) strip masks after
+      → Steps s fits (put_mid n k words strip) says (n + 64) (masks_say after)
+  steps_strip fits words strip says masks after n k e room long first rest stepped =
+      let new = put_mid n k words strip in
       let below : n ≤ length words = omega arith in
-      let was : (k : ℕ) → k < 64 → get_or (mid_of n 64 words) k 0 ≡ get_or (drop n fits) k 0 =
-      λ k l. get_or-take 64 (drop n words) k 0 l ∙ get_or-drop n words k 0 ∙ rest (n + k) (omega arith) ∙ sym (get_or-drop n fits k 0) in
-      let is : (k : ℕ) → k < 64 → get_or strip k 0 ≡ get_or (drop n new) k 0 =
-      λ k l. let e : n + k - n ≡ k = omega arith in sym (get_or-drop n new k 0 ∙ put_in n 64 words strip below (n + k) (omega arith) (omega arith) ∙ ap (λ i. get_or strip i 0) e) in
-      steps_join fits new says (masks_say masks) n (masks_say after) 64 (steps_alike s fits words new says (masks_say masks) n (λ k l. sym (put_below n 64 words strip below k l)) first)
-      (steps_alike s (drop n fits) strip (drop n new) (masks_say masks) (masks_say after) 64 is (steps_fits (mid_of n 64 words) (drop n fits) strip (masks_say masks) (masks_say after) 64 was stepped))
+      let was : (i : ℕ) → i < 64 → get_or (mid_of n k words) i 0 ≡ get_or (drop n fits) i 0 =
+      λ i l. get_or-take k (drop n words) i 0 (omega arith) ∙ get_or-drop n words i 0 ∙ rest (n + i) (omega arith) ∙ sym (get_or-drop n fits i 0) in
+      let is : (i : ℕ) → i < 64 → get_or strip i 0 ≡ get_or (drop n new) i 0 =
+      λ i l. let q : n + i - n ≡ i = omega arith in sym (get_or-drop n new i 0 ∙ put_in n k words strip below (n + i) (omega arith) (omega arith) ∙ ap (λ i. get_or strip i 0) q) in
+      steps_join fits new says (masks_say masks) n (masks_say after) 64 (steps_alike s fits words new says (masks_say masks) n (λ i l. sym (put_below n k words strip below i l)) first)
+      (steps_alike s (drop n fits) strip (drop n new) (masks_say masks) (masks_say after) 64 is (steps_fits (mid_of n k words) (drop n fits) strip (masks_say masks) (masks_say after) 64 was stepped))

@@ -31,18 +31,6 @@ pub record Ongoing (w : ℕ) (s : Signature) (masks fits : List ℕ) (n : ℕ) (
   pub wide : length marks ≡ w
   pub long : length after ≡ 31
 
-pub ongoing_none : (w : ℕ) (s : Signature) (masks fits : List ℕ) → length fits ≡ w → length masks ≡ 31 → Ongoing w s masks fits 0 fits masks (get_or fits 0 0)
-ongoing_none w s masks fits wide long = record {
-  first = refl;
-  later = λ j l. let z : ⊥ = omega arith in absurd z;
-  rest = λ j l. refl;
-  last = refl;
-  kept = λ j l. let z : ⊥ = omega arith in absurd z;
-  old = λ j l. refl;
-  wide = wide;
-  long = long;
-}
-
 module _ (w : ℕ) (s : Signature) (masks fits : List ℕ) (n : ℕ) (marks after : List ℕ) (ended : ℕ) (in-range : n < 31) (room : n + 1 < w) (have : Ongoing w s masks fits n marks after ended) where
   pub ongoing_more : (lo hi r : ℕ) → lo ≡ low (gaps_of s) n → hi ≡ high (gaps_of s) n → Tells (Reached lo hi (get_or after n 0) ended) r
       → let v = bit_and (get_or marks (n + 1) 0) r in Ongoing w s masks fits (n + 1) (set marks (n + 1) v) (set after n ended) v

@@ -5,14 +5,6 @@ use Rattle.engines.proofs.Signatures.{gaps_length, gap_sound}
 use Rattle.engines.proofs.Marks.{Ongoing, ongoing_none, ongoing_more, cleared, marked_all, kept_all}
 use Rattle.engines.proofs.strips.slots.mark_slots.Goals as goal
 
-pub loop-j-init : goal.loop-j-init
-loop-j-init c = ongoing_none (length c.args.columns.now) c.args.signature.now c.args.masks.now c.args.columns.now refl c.told-masks
-
-pub reached-requires : goal.reached-requires
-reached-requires c =
-    let sound = gap_sound c.args.signature.now c.used_gaps-gaps.result.now c.loop-j.j c.used_gaps-gaps.ensures c.loop-j-test.true in
-    record { ordered = sound.ordered; narrow = sound.narrow }
-
 pub loop-j-preserved : goal.loop-j-preserved
 loop-j-preserved c =
     let s = c.args.signature.now in
