@@ -2,7 +2,8 @@
 ghost use Rattle.std.specs.Prelude.{◌≡◌, ◌<◌, true, length};
 ghost use Rattle.engines.specs.Rows.{Width, Gathered, Loaded, Spread, Unloaded, Blank};
 
-// The lowest W bits of every W-th word, in one row.
+// The lowest W bits of every W-th word, in one row. By number: `rev`, `skip` and two `step_by`s, of the words and of
+// their places in the row, are no plainer.
 fn gather<const W: usize>(strip: &[u32; 64], row: usize) -> u64
     requires width { Width W }
     requires row { row < W }
@@ -27,7 +28,7 @@ pub(crate) fn load<const W: usize>(strip: &[u32; 64]) -> [u64; W]
     rows
 }
 
-// The words of one row.
+// The words of one row. By number: a proof knows no word that `iter_mut` lends under a `step_by`.
 fn spread<const W: usize>(strip: &mut [u32; 64], row: usize, bits: u64)
     requires width { Width W }
     requires row { row < W }

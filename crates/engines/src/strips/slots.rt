@@ -15,6 +15,7 @@ pub(crate) fn mark_slots(signature: &Signature, masks: &mut [u64; 31], columns: 
 {
     let gaps = signature.used_gaps();
     let mut ended = columns[0];
+    // The masks and the columns by number: a proof knows no element that `iter_mut` lends under a `zip`.
     for (j, gap) in gaps.iter().enumerate() {
         let before = masks[j];
         masks[j] = ended;

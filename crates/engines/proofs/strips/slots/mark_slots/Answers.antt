@@ -1,8 +1,8 @@
-use Rattle.std.proofs.Common.{◌≡◌, ◌+◌, ◌-◌, ◌<◌, List, length, refl, ap, ◌∙◌, subst, arith, rules}
+use Rattle.std.proofs.Common.{◌≡◌, ◌+◌, ◌-◌, ◌<◌, List, length, ap, ◌∙◌, subst, arith, rules}
 use Rattle.runs.specs.declared.gap.Gap.{Gap}
 use Rattle.runs.specs.Gaps.{low, high}
 use Rattle.engines.proofs.Signatures.{gaps_length, gap_sound}
-use Rattle.engines.proofs.Marks.{Ongoing, ongoing_none, ongoing_more, cleared, marked_all, kept_all}
+use Rattle.engines.proofs.Marks.{Ongoing, ongoing_more, cleared, marked_all, kept_all}
 use Rattle.engines.proofs.strips.slots.mark_slots.Goals as goal
 
 pub loop-j-preserved : goal.loop-j-preserved
