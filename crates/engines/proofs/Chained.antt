@@ -1,6 +1,5 @@
 -- The marks of a strip are those of 64 steps.
-use Rattle.std.proofs.Common.{◌≡◌, ℕ, zero, suc, ◌+◌, ◌-◌, ◌<◌, ◌≤◌, false, List, get_or, drop, replicate, sym, refl, ap, ◌∙◌, ⊎_elim, arith}
-use Rattle.std.proofs.lemmas.List.{get_or-drop}
+use Rattle.std.proofs.Common.{◌≡◌, ℕ, zero, suc, ◌+◌, ◌-◌, ◌<◌, ◌≤◌, false, List, get_or, replicate, sym, refl, ap, ◌∙◌, ⊎_elim, arith}
 use Rattle.std.proofs.lemmas.Bool.{cases_lt, both_ways}
 use Rattle.runs.specs.declared.signature.Signature.{Signature}
 use Rattle.runs.specs.Gaps.{low, high}
@@ -15,32 +14,26 @@ use Rattle.engines.proofs.Laid.{all_same}
 use Rattle.engines.proofs.Signatures.{gap_narrow}
 use Rattle.engines.specs.Windows.{back, Reached}
 use Rattle.engines.specs.Marks.{Marked, Kept}
-use Rattle.engines.specs.Rows.{word_at, Cleared, Columns}
+use Rattle.engines.specs.Rows.{word_at, Columns}
 use Rattle.engines.specs.Strips.{Stepped64}
 use Rattle.engines.proofs.Smears.{back_here, back_past}
 
-module _ (w : ℕ) (s : Signature) (masks fits marks after before words : List ℕ) (from : ℕ) (some : 1 ≤ w) (most : w ≤ 32) (few : s.slots ≤ w)
-    (was : Columns w before from fits) (marked : Marked s w masks fits marks) (is : Columns w words from marks)
-    (clean : (c j : ℕ) → c < 64 → w ≤ j → bit (word_at words from c) j ≡ false) (kept : Kept s marks after) where
+module _ (w : ℕ) (s : Signature) (masks fits marks after before words : List ℕ) (some : 1 ≤ w) (most : w ≤ 32) (few : s.slots ≤ w)
+    (was : Columns w before fits) (marked : Marked s w masks fits marks) (is : Columns w words marks)
+    (clean : (c j : ℕ) → c < 64 → w ≤ j → bit (word_at words c) j ≡ false) (kept : Kept s marks after) where
   -- what is remembered before place k of the strip
   abbrev memory : ℕ → Memory
   memory k j d = back (get_or masks j 0) (get_or marks j 0) (64 - k + d)
 
   -- bit j of the word of place k, in its column
-  bit_of : (k j : ℕ) → k < 64 → j < w → bit (get_or marks j 0) (63 - k) ≡ bit (get_or (drop from words) k 0) j
-  bit_of k j lk lj =
-      let e : from + (63 - (63 - k)) ≡ from + k = omega arith in
-      is j (63 - k) lj (omega arith) ∙ ap (λ i. bit (get_or words i 0) j) e ∙ sym (ap (λ v. bit v j) (get_or-drop from words k 0))
+  bit_of : (k j : ℕ) → k < 64 → j < w → bit (get_or marks j 0) (63 - k) ≡ bit (get_or words k 0) j
+  bit_of k j lk lj = let e : 63 - (63 - k) ≡ k = omega arith in is j (63 - k) lj (omega arith) ∙ ap (λ i. bit (get_or words i 0) j) e
 
-  fit_of : (k j : ℕ) → k < 64 → j < w → bit (get_or fits j 0) (63 - k) ≡ bit (get_or (drop from before) k 0) j
-  fit_of k j lk lj =
-      let e : from + (63 - (63 - k)) ≡ from + k = omega arith in
-      was j (63 - k) lj (omega arith) ∙ ap (λ i. bit (get_or before i 0) j) e ∙ sym (ap (λ v. bit v j) (get_or-drop from before k 0))
+  fit_of : (k j : ℕ) → k < 64 → j < w → bit (get_or fits j 0) (63 - k) ≡ bit (get_or before k 0) j
+  fit_of k j lk lj = let e : 63 - (63 - k) ≡ k = omega arith in was j (63 - k) lj (omega arith) ∙ ap (λ i. bit (get_or before i 0) j) e
 
-  clean_of : (k j : ℕ) → k < 64 → w ≤ j → bit (get_or (drop from words) k 0) j ≡ false
-  clean_of k j lk lj =
-      let e : from + k ≡ from + (63 - (63 - k)) = omega arith in
-      ap (λ v. bit v j) (get_or-drop from words k 0) ∙ ap (λ i. bit (get_or words i 0) j) e ∙ clean (63 - k) j (omega arith) lj
+  clean_of : (k j : ℕ) → k < 64 → w ≤ j → bit (get_or words k 0) j ≡ false
+  clean_of k j lk lj = let e : k ≡ 63 - (63 - k) = omega arith in ap (λ i. bit (get_or words i 0) j) e ∙ clean (63 - k) j (omega arith) lj
 
   reached_seen : (k j : ℕ) → k < 64 → Reached (low (gaps_of s) j) (high (gaps_of s) j) (get_or masks j 0) (get_or marks j 0) (63 - k) → Seen s (memory k) j
   reached_seen k j lk (d, lo, hi, b) =
@@ -52,7 +45,7 @@ module _ (w : ℕ) (s : Signature) (masks fits marks after before words : List �
       let e : 63 - k + 1 + d ≡ 64 - k + d = omega arith in
       (d, lo, hi, ap (back (get_or masks j 0) (get_or marks j 0)) e ∙ b)
 
-  step : (k : ℕ) → k < 64 → Stepped s (memory k) (get_or (drop from before) k 0) (get_or (drop from words) k 0)
+  step : (k : ℕ) → k < 64 → Stepped s (memory k) (get_or before k 0) (get_or words k 0)
   step k lk = record {
     first = sym (bit_of k 0 lk (omega arith)) ∙ ap (λ v. bit v (63 - k)) marked.first ∙ fit_of k 0 lk (omega arith);
     later = λ j l.
@@ -67,7 +60,7 @@ module _ (w : ℕ) (s : Signature) (masks fits marks after before words : List �
         (cases_lt (suc j) w);
   }
 
-  move : (k : ℕ) → k < 64 → Moved s (memory k) (get_or (drop from words) k 0) (memory (suc k))
+  move : (k : ℕ) → k < 64 → Moved s (memory k) (get_or words k 0) (memory (suc k))
   move k lk = record {
     newest = λ j l.
         let e : 64 - suc k + 0 ≡ 63 - k = omega arith in
@@ -75,7 +68,7 @@ module _ (w : ℕ) (s : Signature) (masks fits marks after before words : List �
     older = λ j d l h. let e : 64 - suc k + suc d ≡ 64 - k + d = omega arith in ap (back (get_or masks j 0) (get_or marks j 0)) e;
   }
 
-  chain : (k : ℕ) → k ≤ 64 → Steps s (drop from before) (drop from words) (masks_say masks) k (memory k)
+  chain : (k : ℕ) → k ≤ 64 → Steps s before words (masks_say masks) k (memory k)
   chain zero l = none (λ j d lj ld.
       let e : 64 - 0 + d ≡ 64 + d = omega arith in
       ap (back (get_or masks j 0) (get_or marks j 0)) e ∙ back_past (get_or masks j 0) (get_or marks j 0) d)
@@ -87,7 +80,7 @@ module _ (w : ℕ) (s : Signature) (masks fits marks after before words : List �
       let near : d < 64 = omega (arith, gap_narrow s j lj) in
       ap (λ v. bit v d) (kept j lj) ∙ sym (back_here (get_or masks j 0) (get_or marks j 0) d near) ∙ ap (back (get_or masks j 0) (get_or marks j 0)) e
 
-  pub stepped_strip : Stepped64 s from before words masks after
+  pub stepped_strip : Stepped64 s before words masks after
   stepped_strip = more (chain 63 (omega arith)) (step 63 (omega arith)) (moved_to s (memory 63) (memory 64) (masks_say after) _ ends (move 63 (omega arith)))
 
 -- where nothing fits, nothing is marked
@@ -97,11 +90,10 @@ blanks n = replicate n 0
 no_bit : (n j i : ℕ) → bit (get_or (blanks n) j 0) i ≡ false
 no_bit n j i = ap (λ v. bit v i) (all_same n j 0) ∙ bit_zero i
 
-pub stepped_blank : (w : ℕ) (s : Signature) (masks before words : List ℕ) (from : ℕ) → 1 ≤ w → w ≤ 32 → s.slots ≤ w
-    → ((j c : ℕ) → j < w → c < 64 → bit (word_at before from c) j ≡ false) → Cleared from 64 before words → Stepped64 s from before words masks (blanks 31)
-stepped_blank w s masks before words from some most few blank cleared =
-    let zero_word : (c j : ℕ) → c < 64 → bit (word_at words from c) j ≡ false = λ c j l. ap (λ v. bit v j) (cleared.none (63 - c) (omega arith)) ∙ bit_zero j in
-    stepped_strip w s masks (blanks 32) (blanks 32) (blanks 31) before words from some most few
+pub stepped_blank : (w : ℕ) (s : Signature) (masks before : List ℕ) → 1 ≤ w → w ≤ 32 → s.slots ≤ w
+    → ((j c : ℕ) → j < w → c < 64 → bit (word_at before c) j ≡ false) → Stepped64 s before (blanks 64) masks (blanks 31)
+stepped_blank w s masks before some most few blank =
+    stepped_strip w s masks (blanks 32) (blanks 32) (blanks 31) before (blanks 64) some most few
     (λ j c lj lc. no_bit 32 j c ∙ sym (blank j c lj lc))
     (record {
       first = refl;
@@ -111,6 +103,6 @@ stepped_blank w s masks before words from some most few blank cleared =
       );
       none = λ j l h. all_same 32 (suc j) 0;
     })
-    (λ j c lj lc. no_bit 32 j c ∙ sym (zero_word c j lc))
-    (λ c j lc lj. zero_word c j lc)
+    (λ j c lj lc. no_bit 32 j c ∙ sym (no_bit 64 (63 - c) j))
+    (λ c j lc lj. no_bit 64 (63 - c) j)
     (λ j l. all_same 31 j 0 ∙ sym (all_same 32 j 0))

@@ -1,12 +1,13 @@
 -- Steps after steps.
-use Rattle.std.proofs.Common.{◌≡◌, ℕ, suc, ◌+◌, ◌<◌, ◌≤◌, List, ◌++◌, length, get_or, take, drop, sym, ◌∙◌, subst, inl, arith}
+use Rattle.std.proofs.Common.{◌≡◌, ℕ, suc, ◌+◌, ◌-◌, ◌<◌, ◌≤◌, List, ◌++◌, length, get_or, take, drop, sym, ap, ◌∙◌, subst, arith}
 use Rattle.std.proofs.lemmas.List.{get_or-drop, get_or-take, get_or_append_left, length-take-le, drop_at}
 use Rattle.runs.specs.declared.signature.Signature.{Signature}
 use Rattle.engines.specs.Memory.{Memory, Stepped, Moved, Same, Steps}
 use Rattle.engines.specs.Memory.Steps.{none, more}
 use Rattle.engines.specs.Masked.{masks_say}
 use Rattle.engines.proofs.Chains.{moved_to, steps_alike}
-use Rattle.engines.specs.Rows.{Elsewhere}
+use Rattle.engines.proofs.Placed.{put_below, put_in}
+use borrow.Rule.Slice.PartMut.{mid_of, put_mid}
 use Rattle.engines.specs.Strips.{Stepped64}
 
 module _ (s : Signature) where
@@ -36,13 +37,19 @@ module _ (s : Signature) where
       (subst (λ y. Stepped s next y (get_or words (n + m) 0)) f (subst (λ y. Stepped s next (get_or (drop n fits) m 0) y) v stepped))
       (subst (λ y. Moved s next y after) v moved))
 
-  -- one strip more, whose words are written in place
-  pub steps_strip : (fits words new : List ℕ) (says : Memory) (masks after : List ℕ) (n : ℕ) → Steps s fits words says n (masks_say masks) → ((k : ℕ) → n ≤ k → get_or words k 0 ≡ get_or fits k 0)
-      → Stepped64 s n words new masks after → Elsewhere n words new → Steps s fits new says (n + 64) (masks_say after)
-  steps_strip fits words new says masks after n first rest strip others =
-      let same : (k : ℕ) → k < 64 → get_or (drop n words) k 0 ≡ get_or (drop n fits) k 0 = λ k l. get_or-drop n words k 0 ∙ rest (n + k) (omega arith) ∙ sym (get_or-drop n fits k 0) in
-      steps_join fits new says (masks_say masks) n (masks_say after) 64 (steps_alike s fits words new says (masks_say masks) n (λ k l. sym (others k (inl l))) first)
-      (steps_fits (drop n words) (drop n fits) (drop n new) (masks_say masks) (masks_say after) 64 same strip)
+  -- one strip more, in place of its fits
+  pub steps_strip : (fits words strip : List ℕ) (says : Memory) (masks after : List ℕ) (n k : ℕ) → k ≡ 64 → n + 64 ≤ length words → length strip ≡ 64
+      → Steps s fits words says n (masks_say masks) → ((i : ℕ) → n ≤ i → get_or words i 0 ≡ get_or fits i 0) → Stepped64 s (mid_of n k words) strip masks after
+      → Steps s fits (put_mid n k words strip) says (n + 64) (masks_say after)
+  steps_strip fits words strip says masks after n k e room long first rest stepped =
+      let new = put_mid n k words strip in
+      let below : n ≤ length words = omega arith in
+      let was : (i : ℕ) → i < 64 → get_or (mid_of n k words) i 0 ≡ get_or (drop n fits) i 0 =
+      λ i l. get_or-take k (drop n words) i 0 (omega arith) ∙ get_or-drop n words i 0 ∙ rest (n + i) (omega arith) ∙ sym (get_or-drop n fits i 0) in
+      let is : (i : ℕ) → i < 64 → get_or strip i 0 ≡ get_or (drop n new) i 0 =
+      λ i l. let q : n + i - n ≡ i = omega arith in sym (get_or-drop n new i 0 ∙ put_in n k words strip below (n + i) (omega arith) (omega arith) ∙ ap (λ i. get_or strip i 0) q) in
+      steps_join fits new says (masks_say masks) n (masks_say after) 64 (steps_alike s fits words new says (masks_say masks) n (λ i l. sym (put_below n k words strip below i l)) first)
+      (steps_alike s (drop n fits) strip (drop n new) (masks_say masks) (masks_say after) 64 is (steps_fits (mid_of n k words) (drop n fits) strip (masks_say masks) (masks_say after) 64 was stepped))
 
   -- from place n on one step after another
   pub steps_rest : (fits words rest : List ℕ) (says middle after : Memory) (n : ℕ) → n ≤ length words → Steps s fits words says n middle → ((k : ℕ) → n ≤ k → get_or words k 0 ≡ get_or fits k 0)

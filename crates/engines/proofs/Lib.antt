@@ -16,6 +16,7 @@ pub mod Swaps
 pub mod Tables
 pub mod Stages
 pub mod Turns
+pub mod Placed
 pub mod Packed
 pub mod Chained
 pub mod Joined

@@ -1,5 +1,5 @@
 -- One slot of a strip after another.
-use Rattle.std.proofs.Common.{◌≡◌, ℕ, suc, ◌+◌, ◌-◌, ◌<◌, ◌≤◌, true, ◌≢◌, List, length, get_or, set, sym, refl, ap, ◌∙◌, subst, ⊎_elim, arith, length-set, get_or-set_other, get_or-set_same}
+use Rattle.std.proofs.Common.{◌≡◌, ℕ, suc, ◌+◌, ◌-◌, ◌<◌, ◌≤◌, true, ◌≢◌, List, length, get_or, replicate, set, sym, ap, ◌∙◌, subst, ⊎_elim, arith, length-set, get_or-set_other, get_or-set_same}
 use lib.Bits.{bit_and}
 use Rattle.std.proofs.lemmas.Bool.{cases_lt}
 use Rattle.runs.specs.declared.signature.Signature.{Signature}
@@ -7,6 +7,9 @@ use Rattle.runs.specs.Gaps.{low, high}
 use Rattle.runs.specs.Signatures.{gaps_of}
 use Rattle.runs.specs.Bits.{bit}
 use Rattle.engines.proofs.Bits.{and_on, and_both}
+use Rattle.engines.proofs.Laid.{all_same}
+use Rattle.engines.proofs.Placed.{put_below, put_in}
+use borrow.Rule.Slice.PartMut.{put_mid}
 use Rattle.engines.specs.Windows.{Reached, Tells}
 use Rattle.engines.specs.Marks.{Goes, Marked, Kept}
 
@@ -18,31 +21,19 @@ tells_fits P fits r t i l = (
 )
 
 -- after the first n gaps
-pub record Ongoing (s : Signature) (masks fits : List ℕ) (n : ℕ) (marks after : List ℕ) (ended : ℕ) : Type 0 where
+pub record Ongoing (w : ℕ) (s : Signature) (masks fits : List ℕ) (n : ℕ) (marks after : List ℕ) (ended : ℕ) : Type 0 where
   pub first : get_or marks 0 0 ≡ get_or fits 0 0
   pub later : (j : ℕ) → j < n → Tells (Goes s masks fits marks j) (get_or marks (suc j) 0)
   pub rest : (j : ℕ) → n < j → get_or marks j 0 ≡ get_or fits j 0
   pub last : ended ≡ get_or marks n 0
   pub kept : (j : ℕ) → j < n → get_or after j 0 ≡ get_or marks j 0
   pub old : (j : ℕ) → n ≤ j → get_or after j 0 ≡ get_or masks j 0
-  pub wide : length marks ≡ 32
+  pub wide : length marks ≡ w
   pub long : length after ≡ 31
 
-pub ongoing_none : (s : Signature) (masks fits : List ℕ) → length fits ≡ 32 → length masks ≡ 31 → Ongoing s masks fits 0 fits masks (get_or fits 0 0)
-ongoing_none s masks fits wide long = record {
-  first = refl;
-  later = λ j l. let z : ⊥ = omega arith in absurd z;
-  rest = λ j l. refl;
-  last = refl;
-  kept = λ j l. let z : ⊥ = omega arith in absurd z;
-  old = λ j l. refl;
-  wide = wide;
-  long = long;
-}
-
-module _ (s : Signature) (masks fits : List ℕ) (n : ℕ) (marks after : List ℕ) (ended : ℕ) (in-range : n < 31) (have : Ongoing s masks fits n marks after ended) where
+module _ (w : ℕ) (s : Signature) (masks fits : List ℕ) (n : ℕ) (marks after : List ℕ) (ended : ℕ) (in-range : n < 31) (room : n + 1 < w) (have : Ongoing w s masks fits n marks after ended) where
   pub ongoing_more : (lo hi r : ℕ) → lo ≡ low (gaps_of s) n → hi ≡ high (gaps_of s) n → Tells (Reached lo hi (get_or after n 0) ended) r
-      → let v = bit_and (get_or marks (n + 1) 0) r in Ongoing s masks fits (n + 1) (set marks (n + 1) v) (set after n ended) v
+      → let v = bit_and (get_or marks (n + 1) 0) r in Ongoing w s masks fits (n + 1) (set marks (n + 1) v) (set after n ended) v
   ongoing_more lo hi r elo ehi t =
       let v = bit_and (get_or marks (n + 1) 0) r in
       let new = set marks (n + 1) v in
@@ -88,36 +79,30 @@ module _ (s : Signature) (masks fits : List ℕ) (n : ℕ) (marks after : List �
         long = simp length-set have.long;
       }
 
--- the columns from n up to k are cleared
-pub record Cleared (n k : ℕ) (from columns : List ℕ) : Type 0 where
-  pub wide : length columns ≡ 32
+-- the first n columns stay, and the others have no bits
+pub record Cleared (w n : ℕ) (from columns : List ℕ) : Type 0 where
   pub same : (j : ℕ) → j < n → get_or columns j 0 ≡ get_or from j 0
-  pub none : (j : ℕ) → n ≤ j → j < k → get_or columns j 0 ≡ 0
+  pub none : (j : ℕ) → n ≤ j → j < w → get_or columns j 0 ≡ 0
 
-pub cleared_none : (n : ℕ) (from : List ℕ) → length from ≡ 32 → Cleared n n from from
-cleared_none n from wide = record { wide = wide; same = λ j l. refl; none = λ j l h. let z : ⊥ = omega arith in absurd z }
-
-pub cleared_more : (n k : ℕ) (from columns : List ℕ) → n ≤ k → k < 32 → Cleared n k from columns → Cleared n (k + 1) from (set columns k 0)
-cleared_more n k from columns le lt have = record {
-  wide = simp length-set have.wide;
-  same = λ j l. let ne : j ≢ k = omega arith in get_or-set_other columns k j 0 0 ne ∙ have.same j l;
-  none = λ j l h. ⊎_elim
-      (λ (b : j < k). let ne : j ≢ k = omega arith in get_or-set_other columns k j 0 0 ne ∙ have.none j l b)
-      (λ (b : k ≤ j). let q : k ≡ j = omega arith in subst (λ j. get_or (set columns k 0) j 0 ≡ 0) q (get_or-set_same columns k 0 0 (omega (arith, have.wide))))
-      (cases_lt j k);
-}
+pub cleared : (w n m : ℕ) (from ys : List ℕ) → w ≡ length from → n ≤ w → length ys ≡ w - n → ys ≡ replicate m 0 → Cleared w n from (put_mid n (length from - n) from ys)
+cleared w n m from ys e l long zeros =
+    let fits : n ≤ length from = omega arith in
+    record {
+      same = λ j lj. put_below n (length from - n) from ys fits j lj;
+      none = λ j h lj. put_in n (length from - n) from ys fits j h (omega arith) ∙ ap (λ (zs : List ℕ). get_or zs (j - n) 0) zeros ∙ all_same m (j - n) 0;
+    }
 
 -- all gaps, and then nothing past the slots
-module _ (s : Signature) (width : ℕ) (masks fits : List ℕ) (n : ℕ) (marks after columns : List ℕ) (ended k : ℕ) (all : n ≡ s.slots - 1) (to : width ≤ k)
-    (have : Ongoing s masks fits n marks after ended) (clear : Cleared (n + 1) k marks columns) where
-  pub marked_all : Marked s width masks fits columns
+module _ (w : ℕ) (s : Signature) (masks fits : List ℕ) (n : ℕ) (marks after columns : List ℕ) (ended : ℕ) (all : n ≡ s.slots - 1)
+    (have : Ongoing w s masks fits n marks after ended) (clear : Cleared w (n + 1) marks columns) where
+  pub marked_all : Marked s w masks fits columns
   marked_all = record {
     first = clear.same 0 (omega arith) ∙ have.first;
     later = λ j l.
         let lt : j < n = omega arith in
         subst (λ x. Tells (Goes s masks fits columns j) x) (sym (clear.same (suc j) (omega arith)))
         (subst (λ x. Tells (λ i. (bit (get_or fits (suc j) 0) i ≡ true) × Reached (low (gaps_of s) j) (high (gaps_of s) j) (get_or masks j 0) x i) (get_or marks (suc j) 0)) (sym (clear.same j (omega arith))) (have.later j lt));
-    none = λ j l h. clear.none (suc j) (omega arith) (omega arith);
+    none = λ j l h. clear.none (suc j) (omega arith) h;
   }
 
   pub kept_all : Kept s columns after

@@ -17,12 +17,6 @@ pub record Down (from e x : ℕ) : Type 0 where
   pub sound : (i : ℕ) → bit x i ≡ true → (t : ℕ) × (t ≤ e) × (bit from (i + t) ≡ true)
   pub whole : (i t : ℕ) → t ≤ e → bit from (i + t) ≡ true → bit x i ≡ true
 
-pub up_none : (x : ℕ) → Up x 0 x
-up_none x = record {
-  sound = λ i l h. (0, omega arith, omega arith, ap (bit x) (omega arith) ∙ h);
-  whole = λ i t l z n h. let q : i ≡ i - t = omega arith in ap (bit x) q ∙ h;
-}
-
 up_more : (from e x s : ℕ) → s ≤ e + 1 → Up from e x → Up from (e + s) (bit_or x ((x * 2 ^ s) % 2 ^ 64))
 up_more from e x s le have =
     let y = (x * 2 ^ s) % 2 ^ 64 in
@@ -45,12 +39,6 @@ up_more from e x s le have =
           or_on x y i (shl_bit 64 x s i l g ∙ have.whole (i - s) (t - s) (omega arith) (omega arith) (omega arith) (ap (bit from) q ∙ h)))
           (cases_lt t (e + 1));
     }
-
-pub down_none : (x : ℕ) → Down x 0 x
-down_none x = record {
-  sound = λ i h. (0, omega arith, ap (bit x) (omega arith) ∙ h);
-  whole = λ i t z h. let q : i ≡ i + t = omega arith in ap (bit x) q ∙ h;
-}
 
 down_more : (from e x s : ℕ) → s ≤ e + 1 → Down from e x → Down from (e + s) (bit_or x (x / 2 ^ s))
 down_more from e x s le have =

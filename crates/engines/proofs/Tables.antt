@@ -1,45 +1,16 @@
 -- The numbers of rows and columns of each stage, by tests that are computed.
-use Rattle.std.proofs.Common.{◌≡◌, ℕ, zero, suc, ◌+◌, ◌-◌, ◌*◌, ◌/◌, ◌%◌, ◌<◌, ◌≤◌, Bool, true, false, T, eqb, ltb, leb, ◌⊎◌, refl, subst, inl, inr, ⊎_elim, arith, eqb→eq, ltb→lt, leb→le}
-use Rattle.std.proofs.lemmas.Bool.{cases_lt}
+use Rattle.std.proofs.Common.{◌≡◌, ℕ, ◌+◌, ◌-◌, ◌*◌, ◌/◌, ◌%◌, ◌^◌, ◌<◌, ◌≤◌, Bool, true, eqb, ltb, leb, ◌&&◌, ◌||◌, ◌⊎◌, refl, inl, inr, ⊎_elim, arith}
+use Rattle.std.proofs.lemmas.Bool.{eqb-true, ltb-true, leb-true, and_parts, or_cases, agree_below, agree_below_at}
 use Rattle.runs.specs.Bits.{bit}
-use Rattle.engines.specs.Turns.{Width, MaskOf}
-use Rattle.engines.specs.Turns.Width.{wide_16, wide_8, wide_4, wide_2, wide_1, byte_4, byte_2, byte_1}
-
-abbrev pub both : Bool → Bool → Bool
-both true b = b
-both false b = false
-
-abbrev either : Bool → Bool → Bool
-either true b = true
-either false b = b
-
-pub both_left : (a b : Bool) → T (both a b) → T a
-both_left true b t = tt
-both_left false b t = t
-
-pub both_right : (a b : Bool) → T (both a b) → T b
-both_right true b t = t
-both_right false b t = absurd t
-
-pub both_of : (a b : Bool) → T a → T b → T (both a b)
-both_of true b s t = t
-both_of false b s t = s
-
-either_of : (a b : Bool) → T (either a b) → T a ⊎ T b
-either_of true b t = inl tt
-either_of false b t = inr t
+use Rattle.engines.specs.Turns.{Stage, MaskOf}
+use Rattle.engines.specs.Turns.Stage.{wide_16, wide_8, wide_4, wide_2, wide_1, narrow_4, narrow_2, narrow_1}
 
 -- the test f passes at each number below n
 abbrev pub every : (ℕ → Bool) → ℕ → Bool
-every f zero = true
-every f (suc n) = both (f n) (every f n)
+every f n = agree_below f (λ k. true) n
 
-pub at : (f : ℕ → Bool) (n : ℕ) → T (every f n) → (k : ℕ) → k < n → T (f k)
-at f zero t k l = let z : ⊥ = omega arith in absurd z
-at f (suc n) t k l = ⊎_elim
-    (λ (h : k < n). at f n (both_right (f n) (every f n) t) k h)
-    (λ (h : n ≤ k). let q : n ≡ k = omega arith in subst (λ k. T (f k)) q (both_left (f n) (every f n) t))
-    (cases_lt k n)
+pub at : (f : ℕ → Bool) (n : ℕ) → every f n ≡ true → (k : ℕ) → k < n → f k ≡ true
+at f n t k l = agree_below_at f (λ k. true) n k t l
 
 -- the upper row of pair i, and the pair of row q
 abbrev pub pair : ℕ → ℕ → ℕ
@@ -48,163 +19,95 @@ pair by i = 2 * i - i % by
 abbrev pub pair_of : ℕ → ℕ → ℕ
 pair_of by q = q / (2 * by) * by + q % by
 
-abbrev row_test : ℕ → ℕ → ℕ → Bool
-row_test pairs by q = both (ltb (pair_of by q) pairs) (either (eqb q (pair by (pair_of by q))) (eqb q (pair by (pair_of by q) + by)))
+abbrev size_test : ℕ → ℕ → Bool
+size_test n by = leb n 32 && (ltb 0 by && ltb by 64)
 
-abbrev pair_test : ℕ → ℕ → ℕ → Bool
-pair_test pairs by i =
-    both (ltb (pair by i + by) (2 * pairs))
-    (both (both (eqb (pair_of by (pair by i)) i) (eqb (pair_of by (pair by i + by)) i)) (both (eqb (pair by i / by % 2) 0) (eqb ((pair by i + by) / by % 2) 1)))
+abbrev row_test : ℕ → ℕ → ℕ → Bool
+row_test n by q = ltb (pair_of by q) (n / 2) && (eqb q (pair by (pair_of by q)) || eqb q (pair by (pair_of by q) + by))
+
+abbrev place_test : ℕ → ℕ → ℕ → Bool
+place_test n by i = ltb (pair by i + by) n && (eqb (pair_of by (pair by i)) i && eqb (pair_of by (pair by i + by)) i)
+
+abbrev side_test : ℕ → ℕ → Bool
+side_test by i = eqb (pair by i / by % 2) 0 && eqb ((pair by i + by) / by % 2) 1
 
 abbrev column_test : ℕ → ℕ → Bool
-column_test by c =
-    either (both (eqb (c / by % 2) 0) (either (ltb c by) (eqb ((c - by) / by % 2) 1))) (both (eqb (c / by % 2) 1) (both (leb by c) (eqb ((c - by) / by % 2) 0)))
+column_test by c = eqb (c / by % 2) 0 && (ltb c by || eqb ((c - by) / by % 2) 1) || eqb (c / by % 2) 1 && (leb by c && eqb ((c - by) / by % 2) 0)
 
--- row i of a block has the upper row of the pair by * block + i
-abbrev in_block : ℕ → ℕ → ℕ → ℕ → Bool
-in_block pairs by block i = both (ltb (by * block + i) pairs) (eqb (2 * by * block + i) (pair by (by * block + i)))
+record Passed (n by : ℕ) : Type 0 where
+  size : size_test n by ≡ true
+  rows : every (row_test n by) n ≡ true
+  places : every (place_test n by) (n / 2) ≡ true
+  sides : every (side_test by) (n / 2) ≡ true
+  columns : every (column_test by) 64 ≡ true
 
-abbrev block_test : ℕ → ℕ → ℕ → Bool
-block_test pairs by block = both (eqb (by * block + by) (by * (block + 1))) (every (in_block pairs by block) by)
+passed : (n by : ℕ) → Stage n by → Passed n by
+passed _ _ wide_16 = record { size = refl; rows = refl; places = refl; sides = refl; columns = refl }
+passed _ _ wide_8 = record { size = refl; rows = refl; places = refl; sides = refl; columns = refl }
+passed _ _ wide_4 = record { size = refl; rows = refl; places = refl; sides = refl; columns = refl }
+passed _ _ wide_2 = record { size = refl; rows = refl; places = refl; sides = refl; columns = refl }
+passed _ _ wide_1 = record { size = refl; rows = refl; places = refl; sides = refl; columns = refl }
+passed _ _ narrow_4 = record { size = refl; rows = refl; places = refl; sides = refl; columns = refl }
+passed _ _ narrow_2 = record { size = refl; rows = refl; places = refl; sides = refl; columns = refl }
+passed _ _ narrow_1 = record { size = refl; rows = refl; places = refl; sides = refl; columns = refl }
 
-abbrev size_test : ℕ → ℕ → Bool
-size_test pairs by = both (ltb 0 by) (both (ltb by 64) (leb pairs 16))
+module _ (n by : ℕ) (w : Stage n by) where
+  p : Passed n by
+  p = passed n by w
 
-abbrev test : ℕ → ℕ → Bool
-test blocks by =
-    let pairs = by * blocks in
-    both (size_test pairs by) (both (every (row_test pairs by) (2 * pairs)) (both (every (pair_test pairs by) pairs) (both (every (column_test by) 64) (every (block_test pairs by) blocks))))
+  sizes : (leb n 32 ≡ true) × ((ltb 0 by && ltb by 64) ≡ true)
+  sizes = and_parts _ _ p.size
 
-passes : (blocks by : ℕ) → Width blocks by → T (test blocks by)
-passes _ _ wide_16 = tt
-passes _ _ wide_8 = tt
-passes _ _ wide_4 = tt
-passes _ _ wide_2 = tt
-passes _ _ wide_1 = tt
-passes _ _ byte_4 = tt
-passes _ _ byte_2 = tt
-passes _ _ byte_1 = tt
-
--- a mask is that of a stage where each of its bits is
-abbrev same : Bool → Bool → Bool
-same true b = b
-same false true = false
-same false false = true
-
-same_eq : (a b : Bool) → T (same a b) → a ≡ b
-same_eq true true t = refl
-same_eq true false t = absurd t
-same_eq false true t = absurd t
-same_eq false false t = refl
-
-abbrev mask_test : ℕ → ℕ → ℕ → Bool
-mask_test by mask c = same (bit mask c) (eqb (c / by % 2) 0)
-
-pub mask_of : (by mask : ℕ) → T (every (mask_test by mask) 64) → MaskOf by mask
-mask_of by mask t c l = same_eq (bit mask c) (eqb (c / by % 2) 0) (at (mask_test by mask) 64 t c l)
-
-module _ (blocks by : ℕ) (w : Width blocks by) where
-  abbrev pairs : ℕ
-  pairs = by * blocks
-
-  size : T (size_test pairs by)
-  size = both_left (size_test pairs by) _ (passes blocks by w)
+  pub few : n ≤ 32
+  few = leb-true n 32 sizes.0
 
   pub pos : 0 < by
-  pos = ltb→lt 0 by (both_left (ltb 0 by) _ size)
+  pos = ltb-true 0 by (and_parts _ _ sizes.1).0
 
   pub small : by < 64
-  small = ltb→lt by 64 (both_left (ltb by 64) _ (both_right (ltb 0 by) _ size))
+  small = ltb-true by 64 (and_parts _ _ sizes.1).1
 
-  pub most : pairs ≤ 16
-  most = leb→le pairs 16 (both_right (ltb by 64) _ (both_right (ltb 0 by) _ size))
-
-  of_rows : T (both (every (row_test pairs by) (2 * pairs)) (both (every (pair_test pairs by) pairs) (both (every (column_test by) 64) (every (block_test pairs by) blocks))))
-  of_rows = both_right (size_test pairs by) _ (passes blocks by w)
-
-  of_pairs : T (both (every (pair_test pairs by) pairs) (both (every (column_test by) 64) (every (block_test pairs by) blocks)))
-  of_pairs = both_right (every (row_test pairs by) (2 * pairs)) _ of_rows
-
-  of_columns : T (both (every (column_test by) 64) (every (block_test pairs by) blocks))
-  of_columns = both_right (every (pair_test pairs by) pairs) _ of_pairs
-
-  at_row : (q : ℕ) → q < 2 * pairs → T (row_test pairs by q)
-  at_row = at (row_test pairs by) (2 * pairs) (both_left (every (row_test pairs by) (2 * pairs)) _ of_rows)
-
-  at_pair : (i : ℕ) → i < pairs → T (pair_test pairs by i)
-  at_pair = at (pair_test pairs by) pairs (both_left (every (pair_test pairs by) pairs) _ of_pairs)
-
-  at_column : (c : ℕ) → c < 64 → T (column_test by c)
-  at_column = at (column_test by) 64 (both_left (every (column_test by) 64) _ of_columns)
-
-  at_block : (b : ℕ) → b < blocks → T (block_test pairs by b)
-  at_block = at (block_test pairs by) blocks (both_right (every (column_test by) 64) _ of_columns)
+  in_row : (q : ℕ) → q < n → (ltb (pair_of by q) (n / 2) ≡ true) × ((eqb q (pair by (pair_of by q)) || eqb q (pair by (pair_of by q) + by)) ≡ true)
+  in_row q l = and_parts _ _ (at (row_test n by) n p.rows q l)
 
   -- a row is the upper or the lower one of its pair
-  pub names : (q : ℕ) → q < 2 * pairs → (q ≡ pair by (pair_of by q)) ⊎ (q ≡ pair by (pair_of by q) + by)
-  names q l = ⊎_elim
-      (λ (t : T (eqb q (pair by (pair_of by q)))). inl (eqb→eq _ _ t))
-      (λ (t : T (eqb q (pair by (pair_of by q) + by))). inr (eqb→eq _ _ t))
-      (either_of (eqb q (pair by (pair_of by q))) (eqb q (pair by (pair_of by q) + by)) (both_right (ltb (pair_of by q) pairs) _ (at_row q l)))
+  pub names : (q : ℕ) → q < n → (q ≡ pair by (pair_of by q)) ⊎ (q ≡ pair by (pair_of by q) + by)
+  names q l = ⊎_elim (λ t. inl (eqb-true q (pair by (pair_of by q)) t)) (λ t. inr (eqb-true q (pair by (pair_of by q) + by) t)) (or_cases _ _ (in_row q l).1)
 
-  pub of_in : (q : ℕ) → q < 2 * pairs → pair_of by q < pairs
-  of_in q l = ltb→lt _ _ (both_left (ltb (pair_of by q) pairs) _ (at_row q l))
+  pub of_in : (q : ℕ) → q < n → pair_of by q < n / 2
+  of_in q l = ltb-true _ _ (in_row q l).0
 
-  pub inside : (i : ℕ) → i < pairs → pair by i + by < 2 * pairs
-  inside i l = ltb→lt _ _ (both_left (ltb (pair by i + by) (2 * pairs)) _ (at_pair i l))
+  in_place : (i : ℕ) → i < n / 2 → (ltb (pair by i + by) n ≡ true) × ((eqb (pair_of by (pair by i)) i && eqb (pair_of by (pair by i + by)) i) ≡ true)
+  in_place i l = and_parts _ _ (at (place_test n by) (n / 2) p.places i l)
 
-  more_pair : (i : ℕ) → i < pairs
-      → T (both (both (eqb (pair_of by (pair by i)) i) (eqb (pair_of by (pair by i + by)) i)) (both (eqb (pair by i / by % 2) 0) (eqb ((pair by i + by) / by % 2) 1)))
-  more_pair i l = both_right (ltb (pair by i + by) (2 * pairs)) _ (at_pair i l)
+  pub inside : (i : ℕ) → i < n / 2 → pair by i + by < n
+  inside i l = ltb-true _ _ (in_place i l).0
 
-  numbers : (i : ℕ) → i < pairs → T (both (eqb (pair_of by (pair by i)) i) (eqb (pair_of by (pair by i + by)) i))
-  numbers i l = both_left (both (eqb (pair_of by (pair by i)) i) (eqb (pair_of by (pair by i + by)) i)) _ (more_pair i l)
+  pub of_upper : (i : ℕ) → i < n / 2 → pair_of by (pair by i) ≡ i
+  of_upper i l = eqb-true _ _ (and_parts _ _ (in_place i l).1).0
 
-  sides : (i : ℕ) → i < pairs → T (both (eqb (pair by i / by % 2) 0) (eqb ((pair by i + by) / by % 2) 1))
-  sides i l = both_right (both (eqb (pair_of by (pair by i)) i) (eqb (pair_of by (pair by i + by)) i)) _ (more_pair i l)
+  pub of_lower : (i : ℕ) → i < n / 2 → pair_of by (pair by i + by) ≡ i
+  of_lower i l = eqb-true _ _ (and_parts _ _ (in_place i l).1).1
 
-  pub of_upper : (i : ℕ) → i < pairs → pair_of by (pair by i) ≡ i
-  of_upper i l = eqb→eq _ _ (both_left (eqb (pair_of by (pair by i)) i) _ (numbers i l))
+  pub upper : (i : ℕ) → i < n / 2 → pair by i / by % 2 ≡ 0
+  upper i l = eqb-true _ _ (and_parts _ _ (at (side_test by) (n / 2) p.sides i l)).0
 
-  pub of_lower : (i : ℕ) → i < pairs → pair_of by (pair by i + by) ≡ i
-  of_lower i l = eqb→eq _ _ (both_right (eqb (pair_of by (pair by i)) i) _ (numbers i l))
-
-  pub upper : (i : ℕ) → i < pairs → pair by i / by % 2 ≡ 0
-  upper i l = eqb→eq _ _ (both_left (eqb (pair by i / by % 2) 0) _ (sides i l))
-
-  pub lower : (i : ℕ) → i < pairs → (pair by i + by) / by % 2 ≡ 1
-  lower i l = eqb→eq _ _ (both_right (eqb (pair by i / by % 2) 0) _ (sides i l))
+  pub lower : (i : ℕ) → i < n / 2 → (pair by i + by) / by % 2 ≡ 1
+  lower i l = eqb-true _ _ (and_parts _ _ (at (side_test by) (n / 2) p.sides i l)).1
 
   -- a column is on the left with none before it, or one on the right, or on the right
   pub column : (c : ℕ) → c < 64
       → ((c / by % 2 ≡ 0) × ((c < by) ⊎ ((c - by) / by % 2 ≡ 1))) ⊎ ((c / by % 2 ≡ 1) × (by ≤ c) × ((c - by) / by % 2 ≡ 0))
   column c l = ⊎_elim
-      (λ (t : T (both (eqb (c / by % 2) 0) (either (ltb c by) (eqb ((c - by) / by % 2) 1)))).
-      inl (
-        eqb→eq _ _ (both_left (eqb (c / by % 2) 0) _ t),
-        ⊎_elim (λ (t : T (ltb c by)). inl (ltb→lt _ _ t)) (λ (t : T (eqb ((c - by) / by % 2) 1)). inr (eqb→eq _ _ t))
-            (either_of (ltb c by) (eqb ((c - by) / by % 2) 1) (both_right (eqb (c / by % 2) 0) _ t)),
-      ))
-      (λ (t : T (both (eqb (c / by % 2) 1) (both (leb by c) (eqb ((c - by) / by % 2) 0)))).
-      inr (
-        eqb→eq _ _ (both_left (eqb (c / by % 2) 1) _ t),
-        leb→le _ _ (both_left (leb by c) _ (both_right (eqb (c / by % 2) 1) _ t)),
-        eqb→eq _ _ (both_right (leb by c) _ (both_right (eqb (c / by % 2) 1) _ t)),
-      ))
-      (either_of (both (eqb (c / by % 2) 0) (either (ltb c by) (eqb ((c - by) / by % 2) 1))) (both (eqb (c / by % 2) 1) (both (leb by c) (eqb ((c - by) / by % 2) 0))) (at_column c l))
+      (λ (t : (eqb (c / by % 2) 0 && (ltb c by || eqb ((c - by) / by % 2) 1)) ≡ true).
+      let both = and_parts _ _ t in
+      inl (eqb-true _ _ both.0, ⊎_elim (λ t. inl (ltb-true c by t)) (λ t. inr (eqb-true ((c - by) / by % 2) 1 t)) (or_cases _ _ both.1)))
+      (λ (t : (eqb (c / by % 2) 1 && (leb by c && eqb ((c - by) / by % 2) 0)) ≡ true).
+      let both = and_parts _ _ t in
+      let rest = and_parts _ _ both.1 in
+      inr (eqb-true _ _ both.0, leb-true _ _ rest.0, eqb-true _ _ rest.1))
+      (or_cases _ _ (at (column_test by) 64 p.columns c l))
 
-  -- the pairs of a block
-  pub next_block : (b : ℕ) → b < blocks → by * b + by ≡ by * (b + 1)
-  next_block b l = eqb→eq _ _ (both_left (eqb (by * b + by) (by * (b + 1))) _ (at_block b l))
-
-  at_place : (b i : ℕ) → b < blocks → i < by → T (in_block pairs by b i)
-  at_place b i lb li = at (in_block pairs by b) by (both_right (eqb (by * b + by) (by * (b + 1))) _ (at_block b lb)) i li
-
-  pub block_in : (b i : ℕ) → b < blocks → i < by → by * b + i < pairs
-  block_in b i lb li = ltb→lt _ _ (both_left (ltb (by * b + i) pairs) _ (at_place b i lb li))
-
-  pub block_row : (b i : ℕ) → b < blocks → i < by → 2 * by * b + i ≡ pair by (by * b + i)
-  block_row b i lb li = eqb→eq _ _ (both_right (ltb (by * b + i) pairs) _ (at_place b i lb li))
-
-  pub block_most : (b i : ℕ) → b < blocks → i < by → 2 * by * b + i + by < 32
-  block_most b i lb li = omega (arith, block_row b i lb li, inside (by * b + i) (block_in b i lb li), most)
+  -- what a call of the stage with a mask asks
+  pub ready : (mask : ℕ) → agree_below (bit mask) (λ c. eqb (c / by % 2) 0) 64 ≡ true → (n * 8 < 2 ^ 63) × (Stage n by × MaskOf by mask)
+  ready mask t = (omega (arith, few), (w, λ c l. agree_below_at (bit mask) (λ c. eqb (c / by % 2) 0) 64 c t l))

@@ -11,16 +11,16 @@ pub record Swapped (upper lower by mask : ℕ) (from to : List ℕ) : Type 0 whe
   pub start : (c : ℕ) → c < 64 → c < by → bit (slice_index to upper) c ≡ bit (slice_index from upper) c
   pub rest : (q : ℕ) → q ≢ upper → q ≢ lower → slice_index to q ≡ slice_index from q
 
--- the stages of 32 rows and of 8: how many blocks of rows, and the distance of a swap
-pub data Width : ℕ → ℕ → Type 0 where
-  wide_16 : Width 1 16
-  wide_8 : Width 2 8
-  wide_4 : Width 4 4
-  wide_2 : Width 8 2
-  wide_1 : Width 16 1
-  byte_4 : Width 1 4
-  byte_2 : Width 2 2
-  byte_1 : Width 4 1
+-- the stages of the squares of 32 rows and of 8: the distance of a swap
+pub data Stage : ℕ → ℕ → Type 0 where
+  wide_16 : Stage 32 16
+  wide_8 : Stage 32 8
+  wide_4 : Stage 32 4
+  wide_2 : Stage 32 2
+  wide_1 : Stage 32 1
+  narrow_4 : Stage 8 4
+  narrow_2 : Stage 8 2
+  narrow_1 : Stage 8 1
 
 -- the mask of the columns whose number has no digit of weight `by`
 abbrev pub MaskOf : ℕ → ℕ → Type 0
@@ -33,9 +33,9 @@ row_of by r c = r - r / by % 2 * by + c / by % 2 * by
 abbrev pub column_of : ℕ → ℕ → ℕ → ℕ
 column_of by r c = c - c / by % 2 * by + r / by % 2 * by
 
--- what a stage does to its rows
-pub record Exchanged (blocks by : ℕ) (from to : List ℕ) : Type 0 where
-  pub all : (r c : ℕ) → r < 2 * (by * blocks) → c < 64 → bit (slice_index to r) c ≡ bit (slice_index from (row_of by r c)) (column_of by r c)
+-- what a stage does to its n rows
+pub record Exchanged (n by : ℕ) (from to : List ℕ) : Type 0 where
+  pub all : (r c : ℕ) → r < n → c < 64 → bit (slice_index to r) c ≡ bit (slice_index from (row_of by r c)) (column_of by r c)
 
 -- each square of n columns turned
 pub record Turned (n : ℕ) (from to : List ℕ) : Type 0 where

@@ -1,13 +1,13 @@
 //! The words of strips: from the fits of their places to their mark words.
-ghost use Rattle.std.specs.Prelude.{◌≡◌, ℕ, ◌+◌, ◌*◌, ◌/◌, ◌≤◌, length, slice_index};
+ghost use Rattle.std.specs.Prelude.{◌≡◌, ℕ, ◌*◌, ◌/◌, ◌≤◌, length, slice_index};
 ghost use Rattle.engines.specs.Masked.{masks_say};
 ghost use Rattle.engines.specs.Memory.{Steps};
-ghost use Rattle.engines.specs.Rows.{Elsewhere};
+ghost use Rattle.engines.specs.Rows.{Width};
 ghost use Rattle.engines.specs.Strips.{Stepped64};
 
-use crate::strips::rows::{clear, is_blank, load8, load32, unload8, unload32};
+use crate::strips::rows::{is_blank, load, unload};
 use crate::strips::slots::mark_slots;
-use crate::strips::turn::{turn8, turn32};
+use crate::strips::turn::turn;
 use runs::signature::Signature;
 
 mod rows;
@@ -15,53 +15,35 @@ mod slots;
 mod turn;
 mod window;
 
-// A strip with 8 slots at most.
-fn mark_narrow(signature: &Signature, masks: &mut [u64; 31], words: &mut [u32], from: usize)
-    requires few { signature.now.slots ≤ 8 }
-    requires long { from + 64 ≤ length words.old }
-    ensures steps { Stepped64 signature.now from words.old words.new masks.old masks.new }
-    ensures others { Elsewhere from words.old words.new }
+// A strip with W slots at most.
+fn mark<const W: usize>(signature: &Signature, masks: &mut [u64; 31], strip: &mut [u32; 64])
+    requires width { Width W }
+    requires few { signature.now.slots ≤ W }
+    ensures { Stepped64 signature.now strip.old strip.new masks.old masks.new }
 {
-    let mut rows = load8(words, from);
-    if is_blank(&rows, 8) {
+    let mut rows = load::<W>(strip);
+    if is_blank(&rows) {
         *masks = [0; 31];
-        clear(words, from);
+        *strip = [0; 64];
         return;
     }
-    turn8(&mut rows);
-    mark_slots(signature, masks, &mut rows, 8);
-    turn8(&mut rows);
-    unload8(&rows, words, from);
+    turn(&mut rows);
+    mark_slots(signature, masks, &mut rows);
+    turn(&mut rows);
+    unload(&rows, strip);
 }
 
-// A strip with any number of slots.
-fn mark_wide(signature: &Signature, masks: &mut [u64; 31], words: &mut [u32], from: usize)
-    requires { from + 64 ≤ length words.old }
-    ensures steps { Stepped64 signature.now from words.old words.new masks.old masks.new }
-    ensures others { Elsewhere from words.old words.new }
+// The words of one strip.
+fn mark_strip(signature: &Signature, masks: &mut [u64; 31], words: &mut [u32])
+    requires { length words.old ≡ 64 }
+    ensures { Stepped64 signature.now words.old words.new masks.old masks.new }
 {
-    let mut rows = load32(words, from);
-    if is_blank(&rows, 32) {
-        *masks = [0; 31];
-        clear(words, from);
-        return;
-    }
-    turn32(&mut rows);
-    mark_slots(signature, masks, &mut rows, 32);
-    turn32(&mut rows);
-    unload32(&rows, words, from);
-}
-
-// The strip that begins at `from`.
-fn mark_strip(signature: &Signature, masks: &mut [u64; 31], words: &mut [u32], from: usize)
-    requires { from + 64 ≤ length words.old }
-    ensures steps { Stepped64 signature.now from words.old words.new masks.old masks.new }
-    ensures others { Elsewhere from words.old words.new }
-{
-    if signature.slots <= 8 {
-        mark_narrow(signature, masks, words, from);
-    } else {
-        mark_wide(signature, masks, words, from);
+    if let Some(strip) = words.as_mut_array() {
+        if signature.slots <= 8 {
+            mark::<8>(signature, masks, strip);
+        } else {
+            mark::<32>(signature, masks, strip);
+        }
     }
 }
 
@@ -73,8 +55,10 @@ pub(crate) fn mark_strips(signature: &Signature, masks: &mut [u64; 31], words: &
     ensures rest { (k : ℕ) → result ≤ k → slice_index words.new k ≡ slice_index words.old k }
 {
     let strips = words.len() / 64;
+    // By number: after `chunks_exact_mut`, or a walk with `split_first_chunk_mut`, a proof knows no word of the slice.
     for strip in 0..strips {
-        mark_strip(signature, masks, words, 64 * strip);
+        let from = 64 * strip;
+        mark_strip(signature, masks, &mut words[from..from + 64]);
     }
     64 * strips
 }

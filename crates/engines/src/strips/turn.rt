@@ -1,50 +1,44 @@
 //! A square of bits turned about its diagonal, by a network of swaps.
-ghost use Rattle.std.specs.Prelude.{◌<◌, ◌≢◌};
-ghost use Rattle.engines.specs.Turns.{Swapped, Width, MaskOf, Exchanged, Turned};
+ghost use Rattle.std.specs.Prelude.{◌+◌, ◌<◌};
+ghost use Rattle.engines.specs.Rows.{Width};
+ghost use Rattle.engines.specs.Turns.{Swapped, Stage, MaskOf, Exchanged, Turned};
 
-// The columns of the mask in the lower row change places with those that lie `by` further on in the upper row.
-fn swap(rows: &mut [u64; 32], upper: usize, lower: usize, by: usize, mask: u64)
-    requires upper { upper < 32 }
-    requires lower { lower < 32 }
-    requires two { upper ≢ lower }
-    requires by { by < 64 }
-    ensures { Swapped upper lower by mask rows.old rows.new }
+// The columns of the mask in the row `by` further down change places with those that lie `by` further on in the upper row.
+fn swap<const W: usize>(rows: &mut [u64; W], upper: usize, by: usize, mask: u64)
+    requires rows { upper + by < W }
+    requires apart { 0 < by }
+    requires columns { by < 64 }
+    ensures { Swapped upper (upper + by) by mask rows.old rows.new }
 {
-    let changed = ((rows[upper] >> by) ^ rows[lower]) & mask;
-    rows[lower] ^= changed;
+    let changed = ((rows[upper] >> by) ^ rows[upper + by]) & mask;
+    rows[upper + by] ^= changed;
     rows[upper] ^= changed << by;
 }
 
 // The digits of weight `by` in the numbers of row and column change places.
-fn stage(rows: &mut [u64; 32], blocks: usize, by: usize, mask: u64)
-    requires width { Width blocks by }
+fn stage<const W: usize>(rows: &mut [u64; W], by: usize, mask: u64)
+    requires stage { Stage W by }
     requires mask { MaskOf by mask }
-    ensures { Exchanged blocks by rows.old rows.new }
+    ensures { Exchanged W by rows.old rows.new }
 {
-    for block in 0..blocks {
-        for row in 0..by {
-            let upper = 2 * by * block + row;
-            swap(rows, upper, upper + by, by, mask);
-        }
+    // By number: after `chunks_exact_mut` a proof knows no row.
+    for pair in 0..W / 2 {
+        swap(rows, 2 * pair - pair % by, by, mask);
     }
 }
 
-// Both squares of 32 rows and 32 columns.
-pub(crate) fn turn32(rows: &mut [u64; 32])
-    ensures { Turned 32 rows.old rows.new }
+// The squares of W columns in W rows. Out of line the rows lie in memory to the compiler, which then makes vector code
+// of the swaps: in line a strip of 8 slots takes 0.1 ns a reading more, of 2.2.
+#[inline(never)]
+pub(crate) fn turn<const W: usize>(rows: &mut [u64; W])
+    requires { Width W }
+    ensures { Turned W rows.old rows.new }
 {
-    stage(rows, 1, 16, 0x0000_ffff_0000_ffff);
-    stage(rows, 2, 8, 0x00ff_00ff_00ff_00ff);
-    stage(rows, 4, 4, 0x0f0f_0f0f_0f0f_0f0f);
-    stage(rows, 8, 2, 0x3333_3333_3333_3333);
-    stage(rows, 16, 1, 0x5555_5555_5555_5555);
-}
-
-// The eight squares of 8 columns in the first 8 rows.
-pub(crate) fn turn8(rows: &mut [u64; 32])
-    ensures { Turned 8 rows.old rows.new }
-{
-    stage(rows, 1, 4, 0x0f0f_0f0f_0f0f_0f0f);
-    stage(rows, 2, 2, 0x3333_3333_3333_3333);
-    stage(rows, 4, 1, 0x5555_5555_5555_5555);
+    if 8 < W {
+        stage(rows, 16, 0x0000_ffff_0000_ffff);
+        stage(rows, 8, 0x00ff_00ff_00ff_00ff);
+    }
+    stage(rows, 4, 0x0f0f_0f0f_0f0f_0f0f);
+    stage(rows, 2, 0x3333_3333_3333_3333);
+    stage(rows, 1, 0x5555_5555_5555_5555);
 }

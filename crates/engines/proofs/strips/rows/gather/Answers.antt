@@ -1,12 +1,12 @@
-use Rattle.std.proofs.Common.{arith}
-use Rattle.engines.proofs.Packed.{bytes_none, bytes_more}
+use Rattle.std.proofs.Common.{◌*◌, ◌≡◌, ◌/◌, ap, ◌∙◌, arith}
+use Rattle.engines.proofs.Packed.{places, pieces_more}
 use Rattle.engines.proofs.strips.rows.gather.Goals as goal
 
-pub loop-byte-init : goal.loop-byte-init
-loop-byte-init c = bytes_none _ _ _
-
-pub loop-byte-preserved : goal.loop-byte-preserved
-loop-byte-preserved c = bytes_more c.args.words.now c.args.from c.args.row c.loop-byte.byte c.loop-byte.bytes c.loop-byte-test.true c.requires.row c.loop-byte.invariant
+pub loop-part-preserved : goal.loop-part-preserved
+loop-part-preserved g c = pieces_more g.row.W (places c.requires.width) c.args.strip.now c.args.row c.loop-part.part c.loop-part.bits c.loop-part-test.true c.requires.row c.loop-part.invariant
 
 pub returns : goal.returns
-returns c = λ k l. c.loop-byte.invariant.done k l (omega arith)
+returns g c = λ k l.
+    let end : c.loop-part.part ≡ 64 / g.row.W = omega arith in
+    let all : g.row.W * c.loop-part.part ≡ 64 = ap (λ n. g.row.W * n) end ∙ (places c.requires.width).end in
+    c.loop-part.invariant.done k l (omega (arith, all))

@@ -1,5 +1,5 @@
-use Rattle.engines.proofs.Packed.{Bytes}
+use Rattle.engines.proofs.Packed.{Pieces}
 use Rattle.engines.proofs.strips.rows.gather.Given as goal
 
-abbrev pub invariant-loop-byte : goal.invariant-loop-byte
-invariant-loop-byte l = Bytes l.words l.from l.row l.byte l.bytes
+abbrev pub invariant-loop-part : goal.invariant-loop-part
+invariant-loop-part g l = Pieces g.row.W l.strip l.row l.part l.bits

@@ -1,9 +1,6 @@
 use Rattle.std.proofs.Common.{◌≡◌, ◌+◌, ◌-◌, ◌^◌, ◌<◌, ◌≤◌, arith, rules}
-use Rattle.engines.proofs.Smears.{up_none, down_none, up_to, down_to, window_tells}
+use Rattle.engines.proofs.Smears.{up_to, down_to, window_tells}
 use Rattle.engines.proofs.strips.window.reached.Goals as goal
-
-pub loop-by-init : goal.loop-by-init
-loop-by-init c = (omega arith, omega arith, down_none _, up_none _)
 
 pub loop-by-preserved : goal.loop-by-preserved
 loop-by-preserved c =
