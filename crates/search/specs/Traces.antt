@@ -1,12 +1,13 @@
 -- The trace of a hit by a sheet's words, and when a trace is refused.
-use Rattle.std.specs.Prelude.{ℕ, ◌-◌, Bool, cond, ◌&&◌, List, ◌++◌, length, drop, Ok, Err, filter, Result, nat_le, nat_lt, slice_index}
+use Rattle.std.specs.Prelude.{ℕ, ◌-◌, Bool, cond, ◌&&◌, List, ◌++◌, length, drop, Some, None, Ok, Err, filter, Option, Result, nat_le, nat_lt, slice_index}
 use Rattle.std.specs.List.{range_with_len}
 use Rattle.text.specs.declared.refusal.Refusal.{Refusal}
 use Rattle.text.specs.declared.refusal.Refusal.TheVariants.{NoPlace, NoHit, ShortList}
+use Rattle.runs.specs.declared.gap.Gap.{Gap}
 use Rattle.runs.specs.declared.signature.Signature.{Signature}
 use Rattle.runs.specs.Bits.{bit}
 use Rattle.runs.specs.Signatures.{gaps_of}
-use Rattle.runs.specs.Words.{trace_to}
+use Rattle.runs.specs.Words.{some, near, before, trace_to}
 
 -- the marks that a sheet says its places bear
 abbrev pub sheet_marks : List ℕ → ℕ → ℕ → Bool
@@ -19,6 +20,10 @@ sheet_hit s sheet p = nat_lt p (length sheet) && (nat_lt 0 s.slots && sheet_mark
 -- the hits of a sheet, lowest first
 abbrev pub hits_of : Signature → List ℕ → List ℕ
 hits_of s sheet = filter (sheet_hit s sheet) (range_with_len 0 (length sheet))
+
+-- the latest place before p, within gap j, that bears mark j, where `marks j q` says whether place q does
+abbrev pub latest_before : List Gap → (ℕ → ℕ → Bool) → ℕ → ℕ → Option ℕ
+latest_before gs marks j p = cond (some (λ q. near gs j q p && marks j q) p) (Some (before gs marks j p)) None
 
 -- a place for each slot, back from p
 abbrev pub trace_of : Signature → List ℕ → ℕ → List ℕ

@@ -1,6 +1,8 @@
 use Rattle.std.proofs.Common.{◌≡◌, ◌-◌, ◌<◌, ◌≢◌, length, Ok, refl, ap, ◌∙◌, arith, length-set, get_or-set_other}
 use Rattle.std.proofs.lemmas.Bool.Decides.{nat_tests}
-use Rattle.search.specs.Traces.{trace_of, tracing, places_from}
+use Rattle.runs.specs.Signatures.{gaps_of}
+use Rattle.search.specs.Traces.{sheet_marks, trace_of, tracing, places_from}
+use Rattle.search.proofs.Latest.{latest_or}
 use Rattle.search.proofs.Filled.{filled}
 use Rattle.search.proofs.Back.{written_end, written_more, written_within, trace_size}
 use Rattle.search.proofs.tracing.trace.Goals as goal
@@ -24,9 +26,10 @@ latest-requires c =
 pub loop-slot-preserved : goal.loop-slot-preserved
 loop-slot-preserved c =
     let m = some (goal.at.loop-slot-preserved c).Else-places-slots in
-    let size = length-set c.args.places.now (c.args.signature.now.slots - 1) c.args.end in (
-      written_more c.args.signature.now c.args.sheet.now c.args.end m c.loop-slot.slot c.latest.result c.loop-slot.places c.loop-slot-test.true (omega arith) (omega arith) c.loop-slot.invariant.0 c.latest.ensures,
-      λ k l. let ne : k ≢ c.loop-slot.slot - 1 = omega arith in get_or-set_other c.loop-slot.places (c.loop-slot.slot - 1) k c.latest.result 0 ne ∙ c.loop-slot.invariant.1 k l,
+    let size = length-set c.args.places.now (c.args.signature.now.slots - 1) c.args.end in
+    let is = c.unwrap_or.ensures ∙ latest_or (gaps_of c.args.signature.now) (sheet_marks c.args.sheet.now) _ _ c.latest.result c.latest.ensures in (
+      written_more c.args.signature.now c.args.sheet.now c.args.end m c.loop-slot.slot c.unwrap_or.result c.loop-slot.places c.loop-slot-test.true (omega arith) (omega arith) c.loop-slot.invariant.0 is,
+      λ k l. let ne : k ≢ c.loop-slot.slot - 1 = omega arith in get_or-set_other c.loop-slot.places (c.loop-slot.slot - 1) k c.unwrap_or.result 0 ne ∙ c.loop-slot.invariant.1 k l,
     )
 
 pub returns : goal.returns
