@@ -30,15 +30,6 @@ abbrev pub trace_of : Signature → List ℕ → ℕ → List ℕ
 trace_of s sheet p = trace_to (gaps_of s) (sheet_marks sheet) (s.slots - 1) p
 
 -- the order of the refusals: the place, the hit, the room in the list
-abbrev pub tracing : Signature → List ℕ → ℕ → ℕ → Result (Unit {0}) Refusal
-tracing s sheet p room =
-    cond (nat_lt p (length sheet))
-    (cond (sheet_hit s sheet p)
-    (cond (nat_le s.slots room) (Ok tt) (Err (ShortList p)))
-    (Err (NoHit p)))
-    (Err (NoPlace p))
-
--- the same order, of the numbers of places and slots and of whether the place is a hit
 abbrev pub tracing_by : (places slots : ℕ) (hit : Bool) (p room : ℕ) → Result (Unit {0}) Refusal
 tracing_by places slots hit p room =
     cond (nat_lt p places)
@@ -46,6 +37,9 @@ tracing_by places slots hit p room =
     (cond (nat_le slots room) (Ok tt) (Err (ShortList p)))
     (Err (NoHit p)))
     (Err (NoPlace p))
+
+abbrev pub tracing : Signature → List ℕ → ℕ → ℕ → Result (Unit {0}) Refusal
+tracing s sheet p room = tracing_by (length sheet) s.slots (sheet_hit s sheet p) p room
 
 -- only the first entries of the list change, one for each slot, and none where the trace is refused
 abbrev pub places_from : Signature → List ℕ → ℕ → List ℕ → Result (Unit {0}) Refusal → List ℕ

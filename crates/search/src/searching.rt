@@ -33,7 +33,7 @@ fn count_marked(sheet: &[u32], slot: u32) -> usize
 /// A refusal writes nothing.
 pub fn search<G: Gauge, E: Engine + Drop>(
     gauge: &G,
-    engine: E,
+    mut engine: E,
     signature: &Signature,
     readings: &[G::Reading],
     sheet: &mut [u32],
@@ -42,7 +42,6 @@ pub fn search<G: Gauge, E: Engine + Drop>(
     ensures sheet { sheet.new ≡ sheet_after (pattern_of (G.Gauge.sets gauge.now) signature.now) readings.now sheet.old (opening E.Engine.limit (length readings.now) (length sheet.old) signature.now) }
 {
     check_opening::<E>(readings.len(), sheet.len(), signature)?;
-    let mut engine = engine;
     engine.make(signature);
     try_all(gauge, readings, sheet);
     engine.stretch(sheet);
