@@ -11,19 +11,9 @@ use Rattle.search.proofs.tracing.latest.Goals as goal
 used : (s : Signature) (j : ℕ) → suc j < s.slots → get_or (gaps_of s) j no_gap ≡ get_or s.gaps j no_gap
 used s j l = get_or-take (s.slots - 1) s.gaps j no_gap (omega arith)
 
-pub loop-between-init : goal.loop-between-init
-loop-between-init c e lo l in' =
-    let same = used c.args.signature.now c.args.slot c.requires.slot in
-    absurd (omega (arith, ap (λ g. g.lo) same, c.from-between.ensures))
-
 -- no place that is so near bears the mark
 none_here : (sheet : List ℕ) (j p d q : ℕ) → d + 1 ≤ p → q ≡ p - (d + 1) → false ≡ bit (get_or sheet q 0) j → sheet_marks sheet j (p - suc d) ≡ false
 none_here sheet j p d q l is e = let same : p - suc d ≡ q = omega arith in rw same (sym e)
-
-pub loop-between-preserved : goal.loop-between-preserved
-loop-between-preserved c e lo l in' = at_top c.loop-between.between e (omega arith) (λ x. x < c.args.place → sheet_marks c.args.sheet.now c.args.slot (c.args.place - suc x) ≡ false)
-    (λ b. c.loop-between.invariant e lo b)
-    (λ b. none_here c.args.sheet.now c.args.slot c.args.place c.loop-between.between c.in_ok-earlier.earlier c.in_ok-earlier.ensures.0 c.in_ok-earlier.ensures.1 c.if-bears.ensures) in'
 
 pub returns-in_err-earlier : goal.returns-in_err-earlier
 returns-in_err-earlier c =
