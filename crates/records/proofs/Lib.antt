@@ -3,6 +3,5 @@ pub mod Keeping
 pub mod Growing
 pub mod Working
 pub mod Mending
-pub mod Lining
 pub mod Asking
 pub mod Firsts

@@ -2,8 +2,6 @@
 ghost use Rattle.search.specs.Laws.{SheetsTell};
 
 /// A sheet of mark words tells exactly the hits, and the trace of each by the runs that end there.
-pub fn sheets_tell<R>() -> u8
+pub fn sheets_tell<R>()
     ensures { SheetsTell R }
-{
-    0
-}
+{}

@@ -4,5 +4,4 @@
 pub mod laws;
 pub mod opening;
 pub mod searching;
-mod sheet;
 pub mod tracing;

@@ -1,26 +1,26 @@
 //! The trace of a hit: from the hit back, each earlier place is the latest that the gap allows.
 ghost use Rattle.std.specs.Prelude.{◌≡◌, ℕ, suc, ◌-◌, ◌<◌, ◌≤◌, length};
 ghost use Rattle.runs.specs.Signatures.{gaps_of};
-ghost use Rattle.runs.specs.Words.{before};
-ghost use Rattle.search.specs.Traces.{sheet_marks, sheet_hit, tracing, places_after};
+ghost use Rattle.search.specs.Traces.{sheet_marks, sheet_hit, latest_before, tracing, places_after};
 
-use crate::sheet::bears;
+use runs::bits::bears;
 use runs::signature::Signature;
 use text::refusal::Refusal;
 
-// The latest place before `place`, within the gap behind the slot, that bears the slot's mark; 0 where there is none.
-fn latest(signature: &Signature, sheet: &[u32], slot: usize, place: usize) -> usize
+// The latest place before `place`, within the gap behind the slot, that bears the slot's mark.
+fn latest(signature: &Signature, sheet: &[u32], slot: usize, place: usize) -> Option<usize>
     requires slot { suc slot < signature.now.slots }
     requires place { place ≤ length sheet.now }
-    ensures { result ≡ before (gaps_of signature.now) (sheet_marks sheet.now) slot place }
+    ensures { result ≡ latest_before (gaps_of signature.now) (sheet_marks sheet.now) slot place }
 {
     let gap = signature.gaps[slot];
-    for between in usize::from(gap.lo)..usize::from(gap.hi) + 1 {
-        if between < place && bears(sheet[place - 1 - between], slot as u32) {
-            return place - 1 - between;
+    for between in usize::from(gap.lo)..=usize::from(gap.hi) {
+        let earlier = place.checked_sub(between + 1)?;
+        if bears(sheet[earlier], slot as u32) {
+            return Some(earlier);
         }
     }
-    0
+    None
 }
 
 /// Whether a hit ends at a place of the sheet.
@@ -52,8 +52,9 @@ pub fn trace(
         return Err(Refusal::ShortList { place: end });
     }
     places[slots - 1] = end;
+    // in a sheet that no search wrote an earlier place may be missing: 0 stands for it
     for slot in (0..slots - 1).rev() {
-        places[slot] = latest(signature, sheet, slot, places[slot + 1]);
+        places[slot] = latest(signature, sheet, slot, places[slot + 1]).unwrap_or(0);
     }
     Ok(())
 }

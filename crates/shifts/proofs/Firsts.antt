@@ -1,6 +1,6 @@
 -- The first hit, and the hits below the line.
 use Rattle.std.proofs.Common.{◌≡◌, ℕ, zero, suc, ◌+◌, ◌-◌, ◌<◌, ◌≤◌, Bool, true, false, cond, List, Some, None, filter, Option, refl, arith, MatchOption}
-use Rattle.std.specs.List.{range_with_len}
+use Rattle.std.specs.List.{find, range_with_len}
 use Rattle.std.proofs.lemmas.Bool.{both_ways}
 use Rattle.std.proofs.ByRecursion.{all-has}
 use Rattle.runs.specs.Runs.{Pattern, last_slot, Hit}
@@ -8,16 +8,16 @@ use Rattle.runs.specs.Words.{mark}
 use Rattle.runs.proofs.Listed.{Passes, all_kept, has_kept, rising}
 use Rattle.runs.proofs.Marked.{mark_decides}
 use Rattle.runs.proofs.Steps.{at_low}
-use Rattle.records.specs.Books.{first_of, first_from}
+use Rattle.records.specs.Books.{first_from}
 use Rattle.shifts.specs.Promise.{First, Names}
 
 module _ (f : ℕ → Bool) where
   abbrev pub FirstOf : ℕ → ℕ → Option ℕ → Type 0
   FirstOf a n o = MatchOption o ((k : ℕ) → a ≤ k → k < a + n → f k ≡ false) (λ q. (a ≤ q) × (q < a + n) × (f q ≡ true) × ((k : ℕ) → a ≤ k → k < q → f k ≡ false))
 
-  pub first_found : (a n : ℕ) → FirstOf a n (first_of f (range_with_len a n))
+  pub first_found : (a n : ℕ) → FirstOf a n (find f (range_with_len a n))
   first_found a zero = λ k l b. absurd (omega arith)
-  first_found a (suc n) = go (f a) refl (first_of f (range_with_len (a + 1) n)) (first_found (a + 1) n)
+  first_found a (suc n) = go (f a) refl (find f (range_with_len (a + 1) n)) (first_found (a + 1) n)
     where
       later : f a ≡ false → (q : ℕ) → ((k : ℕ) → a + 1 ≤ k → k < q → f k ≡ false) → (k : ℕ) → a ≤ k → k < q → f k ≡ false
       later e q rest k l b = at_low a k l (λ i. i < q → f i ≡ false) (λ _. e) (λ c d. rest k (omega arith) d) b

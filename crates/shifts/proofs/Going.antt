@@ -81,7 +81,7 @@ module _ {G E R : Type 0} (M : Meaning G E R) (before : List (Request R)) (s : S
           let b = nth_set_same now i q' l in
           let one : q ≡ p = cc in
           let two : q' ≡ p' = cc in
-          subst (λ (x : Request R). Asked x p') one (subst (Asked q) two (record { call = filled.call; lent = filled.lent; reply = reply; answer = filled.answer }))
+          subst (λ (x : Request R). Asked x p') one (subst (Asked q) two (reply, filled))
 
   -- one call more at the end
   pub going_all : (now : List (Request R)) (i : ℕ) (t u : State G E R) (m : Made R) (a : Answer) → length before ≡ i → Going now i t → Carried M m t a u

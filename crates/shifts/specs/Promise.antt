@@ -12,7 +12,7 @@ use Rattle.records.specs.declared.call.Call.TheVariants.{Append, Amend, Settle, 
 use Rattle.records.specs.declared.call.Reply.{Reply}
 use Rattle.records.specs.declared.call.Reply.TheVariants.{Placed, Reworked, Line, Word as Bears, Hit as HitAt, Traced, Named, Closed, NotTaken}
 use Rattle.records.specs.States.{Meaning, Terms, State, pattern_by}
-use Rattle.records.specs.Books.{Book, Answer, kept, takes, lends, overlaid}
+use Rattle.records.specs.Books.{Book, Answer, takes, lends, overlaid}
 use Rattle.shifts.specs.Stands.{answered}
 use Rattle.shifts.specs.Made.{Made, book_at}
 
@@ -48,8 +48,8 @@ module _ {G E R : Type 0} (M : Meaning G E R) (T : Terms G) where
     pub line : s.line ≡ b.line
     pub order : (b.line ≤ length b.readings) × (length b.readings ≤ T.room)
     pub lengths : (length s.readings ≡ T.room) × (length s.sheet ≡ T.room)
-    pub held : take (length (kept b)) s.readings ≡ kept b
-    pub written : (k : ℕ) → k < length (kept b) → Tells P b.readings k (slice_index s.sheet k)
+    pub held : take (length b.readings) s.readings ≡ b.readings
+    pub written : (k : ℕ) → k < length b.readings → Tells P b.readings k (slice_index s.sheet k)
     pub recalled : (j d : ℕ) → suc j < slots P → d ≤ high P.gaps j
         → Decides (M.says s.engine j d) ((d < length b.readings) × Mark P b.readings j (length b.readings - suc d))
 

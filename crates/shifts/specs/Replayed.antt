@@ -16,7 +16,7 @@ use Rattle.shifts.specs.declared.carrying.Kept.{Kept}
 use Rattle.shifts.specs.declared.request.Request.{Request}
 use Rattle.shifts.specs.Stands.{standing, answered}
 use Rattle.shifts.specs.Made.{Made}
-use Rattle.shifts.specs.Carried.{Carried, made_of}
+use Rattle.shifts.specs.Carried.{Carried, Filled, made_of}
 use Rattle.shifts.specs.Promise.{Promise}
 
 -- what a request's answer is, once it was made
@@ -39,11 +39,8 @@ abbrev pub Ends : {G E R : Type 0} → Meaning G E R → Kept G E → Record G E
 Ends {R = R} M k o = (readings : List R) (sheet : List ℕ) → (a : Answer) × Carried M closing (standing k readings sheet) a (state closed o readings sheet)
 
 -- the request is as it was made, and answered
-pub record Asked {R : Type 0} (before after : Request R) : Type 0 where
-  pub call : after.call ≡ before.call
-  pub lent : after.lent ≡ before.lent
-  pub reply : Result Reply Refusal
-  pub answer : after.answer ≡ Some reply
+abbrev pub Asked : {R : Type 0} → Request R → Request R → Type 0
+Asked before after = (reply : Result Reply Refusal) × Filled before after reply
 
 -- There are states from the opening to the closed record, one after each call, and an answer to the closing, that keep the promise.
 pub record Replayed {G E R : Type 0} (M : Meaning G E R) (limit : ℕ) (gauge : G) (signature : Signature) (readings : List R) (sheet : List ℕ) (before after : List (Request R))

@@ -28,29 +28,18 @@ fn ask<G: Gauge, E: Engine, S>(
     call: &Call<G::Reading>,
     list: &mut [usize],
 ) -> Result<Reply, Refusal>
-    ensures { Asks (meaning G.Gauge.sets E.Engine.shape E.Engine.says) call.now list.old «record».now readings.now sheet.now (answered result list.new) }
+    ensures { Asks (meaning G.Gauge E.Engine) call.now list.old «record».now readings.now sheet.now (answered result list.new) }
 {
     match call {
-        Call::Word(place) => match record.word(readings, sheet, *place) {
-            Ok(word) => Ok(Reply::Word(word)),
-            Err(refusal) => Err(refusal),
-        },
-        Call::NextHit(from) => match record.next_hit(readings, sheet, *from) {
-            Ok(hit) => Ok(Reply::Hit(hit)),
-            Err(refusal) => Err(refusal),
-        },
-        Call::NextFinalHit(from) => match record.next_final_hit(readings, sheet, *from) {
-            Ok(hit) => Ok(Reply::Hit(hit)),
-            Err(refusal) => Err(refusal),
-        },
-        Call::Trace(end) => match record.trace(readings, sheet, *end, list) {
-            Ok(()) => Ok(Reply::Traced),
-            Err(refusal) => Err(refusal),
-        },
-        Call::FinalHits => match record.final_hits(readings, sheet, list) {
-            Ok(hits) => Ok(Reply::Named(hits)),
-            Err(refusal) => Err(refusal),
-        },
+        Call::Word(place) => record.word(readings, sheet, *place).map(Reply::Word),
+        Call::NextHit(from) => record.next_hit(readings, sheet, *from).map(Reply::Hit),
+        Call::NextFinalHit(from) => record
+            .next_final_hit(readings, sheet, *from)
+            .map(Reply::Hit),
+        Call::Trace(end) => record
+            .trace(readings, sheet, *end, list)
+            .map(|()| Reply::Traced),
+        Call::FinalHits => record.final_hits(readings, sheet, list).map(Reply::Named),
         Call::Append(_) | Call::Amend(_, _) | Call::Settle(_) | Call::Close => Ok(Reply::NotTaken),
     }
 }
@@ -66,21 +55,16 @@ fn call_open<G: Gauge, E: Engine>(
 where
     G::Reading: Copy,
     requires { lends call.now ≡ true }
-    ensures { Keeps (meaning G.Gauge.sets E.Engine.shape E.Engine.says) call.now list.old (state opened «open».old readings.old sheet.old) (answered result list.new) (state opened «open».new readings.new sheet.new) }
+    ensures { Keeps (meaning G.Gauge E.Engine) call.now list.old (state opened «open».old readings.old sheet.old) (answered result list.new) (state opened «open».new readings.new sheet.new) }
 {
     match call {
-        Call::Append(reading) => match open.append(readings, sheet, *reading) {
-            Ok(placed) => Ok(Reply::Placed(placed.place, placed.word)),
-            Err(refusal) => Err(refusal),
-        },
-        Call::Amend(place, reading) => match open.amend(readings, sheet, *place, *reading) {
-            Ok(places) => Ok(Reply::Reworked(places)),
-            Err(refusal) => Err(refusal),
-        },
-        Call::Settle(place) => match open.settle(readings, sheet, *place) {
-            Ok(line) => Ok(Reply::Line(line)),
-            Err(refusal) => Err(refusal),
-        },
+        Call::Append(reading) => open
+            .append(readings, sheet, *reading)
+            .map(|placed| Reply::Placed(placed.place, placed.word)),
+        Call::Amend(place, reading) => open
+            .amend(readings, sheet, *place, *reading)
+            .map(Reply::Reworked),
+        Call::Settle(place) => open.settle(readings, sheet, *place).map(Reply::Line),
         _ => ask(open, readings, sheet, call, list),
     }
 }
@@ -97,29 +81,23 @@ where
         call: &Call<G::Reading>,
         list: &mut [usize],
     ) -> (Kept<G, E>, Result<Reply, Refusal>)
-        ensures { Obeys (meaning G.Gauge.sets E.Engine.shape E.Engine.says) call.now list.old (standing self readings.old sheet.old) (answered result.1 list.new) (standing result.0 readings.new sheet.new) }
+        ensures { Obeys (meaning G.Gauge E.Engine) call.now list.old (standing self readings.old sheet.old) (answered result.1 list.new) (standing result.0 readings.new sheet.new) }
     {
         match self {
             Kept::Closed(closed) => {
                 let reply = ask(&closed, readings, sheet, call, list);
                 (Kept::Closed(closed), reply)
             }
-            Kept::Open(open) => {
+            Kept::Open(mut open) => {
                 if let Call::Close = call {
                     return (Kept::Closed(open.close()), Ok(Reply::Closed));
                 }
-                let mut open = open;
                 let reply = call_open(&mut open, readings, sheet, call, list);
                 (Kept::Open(open), reply)
             }
         }
     }
-}
 
-impl<G: Gauge, E: Engine> Kept<G, E>
-where
-    G::Reading: Copy,
-{
     /// Makes the call of a request, and writes the answer down.
     pub fn carry_out(
         self,
@@ -127,7 +105,7 @@ where
         sheet: &mut [u32],
         request: &mut Request<G::Reading>,
     ) -> Kept<G, E>
-        ensures { Carries (meaning G.Gauge.sets E.Engine.shape E.Engine.says) request.old (standing self readings.old sheet.old) request.new (standing result readings.new sheet.new) }
+        ensures { Carries (meaning G.Gauge E.Engine) request.old (standing self readings.old sheet.old) request.new (standing result readings.new sheet.new) }
     {
         let call = request.call;
         let read = lent_entries(&call, request.lent, readings.len());
@@ -146,7 +124,7 @@ where
 impl<G: Gauge, E: Engine> Kept<G, E> {
     /// The record closed, where it is not yet.
     pub fn close(self) -> ClosedRecord<G, E>
-        ensures { Ends (meaning G.Gauge.sets E.Engine.shape E.Engine.says) self result }
+        ensures { Ends (meaning G.Gauge E.Engine) self result }
     {
         match self {
             Kept::Open(open) => open.close(),

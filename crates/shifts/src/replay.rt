@@ -23,14 +23,11 @@ pub fn replay<G: Gauge, E: Engine>(
 ) -> Result<ClosedRecord<G, E>, Unopened<G, E>>
 where
     G::Reading: Copy,
-    ensures { MatchResult result (λ o. Replayed (meaning G.Gauge.sets E.Engine.shape E.Engine.says) E.Engine.LIMIT gauge signature.now readings.old sheet.old requests.old requests.new o readings.new sheet.new) (UnopenedShift E.Engine.LIMIT gauge engine signature.now readings.old sheet.old requests.old requests.new readings.new sheet.new) }
+    ensures { MatchResult result (λ o. Replayed (meaning G.Gauge E.Engine) E.Engine.LIMIT gauge signature.now readings.old sheet.old requests.old requests.new o readings.new sheet.new) (UnopenedShift E.Engine.LIMIT gauge engine signature.now readings.old sheet.old requests.old requests.new readings.new sheet.new) }
 {
-    let mut kept = match Record::open(gauge, engine, signature, readings, sheet) {
-        Ok(open) => Kept::Open(open),
-        Err(unopened) => return Err(unopened),
-    };
-    for i in 0..requests.len() {
-        kept = kept.carry_out(readings, sheet, &mut requests[i]);
+    let mut kept = Kept::Open(Record::open(gauge, engine, signature, readings, sheet)?);
+    for request in requests.iter_mut() {
+        kept = kept.carry_out(readings, sheet, request);
     }
     Ok(kept.close())
 }

@@ -1,21 +1,18 @@
+use Rattle.std.proofs.Common.{rules}
+use Rattle.records.specs.declared.call.Reply.TheVariants.{Reworked, Line}
 use Rattle.records.specs.States.{opened}
-use Rattle.shifts.proofs.Asking.{keeps_of, question_of}
+use Rattle.records.specs.Replies.{placing}
+use Rattle.shifts.proofs.Asking.{replied_by, keeps_mapped, question_of}
 use Rattle.shifts.proofs.carrying.call_open.Goals as goal
 
-pub returns-in-Ok : goal.returns-in-Ok
-returns-in-Ok g c = keeps_of _ _ _ _ _ _ _ c.in-Append.is (c.in-Ok.ensures.keeps c.args.list.now)
+pub returns-in-Append : goal.returns-in-Append
+returns-in-Append g c = keeps_mapped _ _ _ _ _ _ placing c.append.result c.map.result c.in-Append.is (replied_by placing _ _ c.map.ensures.cases (λ x y k. search rules)) c.append.ensures.keeps
 
-pub returns-in-Err : goal.returns-in-Err
-returns-in-Err g c = keeps_of _ _ _ _ _ _ _ c.in-Append.is (c.in-Err.ensures.keeps c.args.list.now)
+pub returns-in-Amend : goal.returns-in-Amend
+returns-in-Amend g c = keeps_mapped _ _ _ _ _ _ Reworked c.amend.result c.map-in-Amend.result c.in-Amend.is (replied_by Reworked _ _ c.map-in-Amend.ensures.cases (λ x y k. search rules)) c.amend.ensures.keeps
 
-pub returns-in-Ok-amend : goal.returns-in-Ok-amend
-returns-in-Ok-amend g c = keeps_of _ _ _ _ _ _ _ c.in-Amend.is (c.in-Ok-amend.ensures.keeps c.args.list.now)
-
-pub returns-in-Err-amend : goal.returns-in-Err-amend
-returns-in-Err-amend g c = keeps_of _ _ _ _ _ _ _ c.in-Amend.is (c.in-Err-amend.ensures.keeps c.args.list.now)
-
-pub returns-in-Err-settle : goal.returns-in-Err-settle
-returns-in-Err-settle g c = keeps_of _ _ _ _ _ _ _ c.in-Settle.is (c.in-Err-settle.ensures.keeps c.args.list.now)
+pub returns-in-Settle : goal.returns-in-Settle
+returns-in-Settle g c = keeps_mapped _ _ _ _ _ _ Line c.settle.result c.map-in-Settle.result c.in-Settle.is (replied_by Line _ _ c.map-in-Settle.ensures.cases (λ x y k. search rules)) c.settle.ensures.keeps
 
 pub returns-in_default : goal.returns-in_default
 returns-in_default g c = c.ask.ensures.asked (question_of c.args.call.now c.requires c.in_default.not-Append c.in_default.not-Amend c.in_default.not-Settle) opened

@@ -1,6 +1,5 @@
-use Rattle.std.proofs.Common.{refl}
 use Rattle.shifts.proofs.Determined.{determined}
 use Rattle.shifts.proofs.laws.determined.Goals as goal
 
 pub returns : goal.returns
-returns g c = record { law = determined g.row.G.Denot g.row.H.Denot g.row.E.Denot g.row.F.Denot g.row.R.Denot; answer = refl }
+returns g c = determined g.row.G.Denot g.row.H.Denot g.row.E.Denot g.row.F.Denot g.row.R.Denot

@@ -9,7 +9,7 @@ use Rattle.shifts.proofs.carrying.Kept.carry_out.Goals as goal
 
 pub returns : goal.returns
 returns g c =
-    let M = meaning g.G.Gauge.sets g.E.Engine.shape g.E.Engine.says in
+    let M = meaning g.G.Gauge g.E.Engine in
     let m = made_of c.args.request.now in
     let rs = c.args.readings.now in
     let ws = c.args.sheet.now in

@@ -11,7 +11,7 @@ use Rattle.shifts.proofs.carrying.Kept.close.Goals as goal
 
 pub returns-in-Open : goal.returns-in-Open
 returns-in-Open g c =
-    let M = meaning g.G.Gauge.sets g.E.Engine.shape g.E.Engine.says in
+    let M = meaning g.G.Gauge g.E.Engine in
     subst (λ (k : Kept _ _). Ends M k c.close.result) (sym c.in-Open.is) (λ rs ws.
     let s = state opened c.in-Open.open rs ws in
     let t = state closed c.close.result rs ws in
@@ -20,5 +20,5 @@ returns-in-Open g c =
 
 pub returns-in-Closed : goal.returns-in-Closed
 returns-in-Closed g c =
-    let M = meaning g.G.Gauge.sets g.E.Engine.shape g.E.Engine.says in
+    let M = meaning g.G.Gauge g.E.Engine in
     subst (λ (k : Kept _ _). Ends M k c.in-Closed.closed) (sym c.in-Closed.is) (λ rs ws. (answered (Ok NotTaken) [], closed_already M c.in-Closed.closed rs ws))

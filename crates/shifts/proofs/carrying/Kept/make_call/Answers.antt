@@ -8,7 +8,7 @@ use Rattle.shifts.proofs.carrying.Kept.make_call.Goals as goal
 
 pub returns-in-Close : goal.returns-in-Close
 returns-in-Close g c =
-    let M = meaning g.G.Gauge.sets g.E.Engine.shape g.E.Engine.says in
+    let M = meaning g.G.Gauge g.E.Engine in
     let list = c.args.list.now in
     let s = state opened c.in-Open.open c.args.readings.now c.args.sheet.now in
     let t = state closed c.close.result c.args.readings.now c.args.sheet.now in
@@ -18,7 +18,7 @@ returns-in-Close g c =
 
 pub returns-in-Closed : goal.returns-in-Closed
 returns-in-Closed g c =
-    let M = meaning g.G.Gauge.sets g.E.Engine.shape g.E.Engine.says in
+    let M = meaning g.G.Gauge g.E.Engine in
     let rs = c.args.readings.now in
     let ws = c.args.sheet.now in
     let a = answered c.ask-reply.result c.ask-reply.new.list in
