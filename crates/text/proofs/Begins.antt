@@ -5,7 +5,6 @@ use Rattle.std.proofs.lemmas.Bool.{eq-eqb, eqb-true}
 use Rattle.text.specs.declared.mark.Mark.{Mark}
 use Rattle.text.specs.declared.refusal.Layer.{Layer}
 use Rattle.text.specs.declared.refusal.Refusal.{Refusal}
-use Rattle.text.specs.declared.refusal.Refusal.TheVariants.{NoMark}
 use Rattle.text.specs.Refusals.{place_of}
 use Rattle.text.specs.Words.{is_digit, place_in}
 use Rattle.text.specs.Numbers.{value_of, number_at}

@@ -46,14 +46,6 @@ returns-in_err-at-2 g c =
     let out = handed _ _ _ (refused_slot _ _ h c.in_ok-next.next c.loop-at-test.true (sym c.in_ok-next.ensures.value) n.0 n.1 c.in_ok-join.join _ (sym c.in_ok-join.ensures.value) x) (rw (p.1, p.2) refl) in
     record { value = out.0; left = out.1 }
 
-pub add_slot-requires : goal.add_slot-requires
-add_slot-requires g c =
-    let h = c.loop-at.invariant in
-    record { some = h.some; room = c.if-slot-ge-MOST_SLOTS.false; allowed = c.in_ok-join.ensures.allowed }
-
-pub loop-at-smaller : goal.loop-at-smaller
-loop-at-smaller g c = let few = c.if-slot-ge-MOST_SLOTS.false in omega (arith, c.add_slot.ensures.slots)
-
 pub loop-at-preserved : goal.loop-at-preserved
 loop-at-preserved g c =
     let s = c.args.text.now in
