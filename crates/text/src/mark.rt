@@ -39,37 +39,6 @@ pub enum Mark {
     Bang,
 }
 
-/// A byte that is no mark.
-#[derive(Clone, Copy, PartialEq, Eq, Debug)]
-pub struct NotMark(pub u8);
-
-impl TryFrom<u8> for Mark {
-    type Error = NotMark;
-
-    ghost try_from_gives = { λ byte result. result ≡ mark_from byte };
-
-    fn try_from(byte: u8) -> Result<Self, NotMark> {
-        match char::from(byte) {
-            '-' => Ok(Mark::Dash),
-            'x' => Ok(Mark::Gap),
-            '(' => Ok(Mark::Open),
-            ',' => Ok(Mark::Comma),
-            ')' => Ok(Mark::Close),
-            '[' => Ok(Mark::ClassOpen),
-            ']' => Ok(Mark::ClassClose),
-            '{' => Ok(Mark::BarredOpen),
-            '}' => Ok(Mark::BarredClose),
-            ':' => Ok(Mark::Colon),
-            ' ' => Ok(Mark::Space),
-            '~' => Ok(Mark::Tilde),
-            '@' => Ok(Mark::At),
-            '&' => Ok(Mark::And),
-            '!' => Ok(Mark::Bang),
-            _ => Err(NotMark(byte)),
-        }
-    }
-}
-
 /// The mark that a word is, if it is one.
 pub fn read_mark(word: &[u8]) -> Option<Mark>
     ensures { result ≡ mark_in word.now }
@@ -103,5 +72,36 @@ pub fn take_mark(text: &[u8], at: usize, wanted: Mark, layer: Layer) -> Result<u
             layer,
             place: at.min(text.len()),
         })
+    }
+}
+
+/// A byte that is no mark.
+#[derive(Clone, Copy, PartialEq, Eq, Debug)]
+pub struct NotMark(pub u8);
+
+impl TryFrom<u8> for Mark {
+    type Error = NotMark;
+
+    ghost try_from_gives = { λ byte result. result ≡ mark_from byte };
+
+    fn try_from(byte: u8) -> Result<Self, NotMark> {
+        match char::from(byte) {
+            '-' => Ok(Mark::Dash),
+            'x' => Ok(Mark::Gap),
+            '(' => Ok(Mark::Open),
+            ',' => Ok(Mark::Comma),
+            ')' => Ok(Mark::Close),
+            '[' => Ok(Mark::ClassOpen),
+            ']' => Ok(Mark::ClassClose),
+            '{' => Ok(Mark::BarredOpen),
+            '}' => Ok(Mark::BarredClose),
+            ':' => Ok(Mark::Colon),
+            ' ' => Ok(Mark::Space),
+            '~' => Ok(Mark::Tilde),
+            '@' => Ok(Mark::At),
+            '&' => Ok(Mark::And),
+            '!' => Ok(Mark::Bang),
+            _ => Err(NotMark(byte)),
+        }
     }
 }
