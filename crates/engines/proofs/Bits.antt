@@ -3,7 +3,7 @@ use Rattle.std.proofs.Common.{◌≡◌, ℕ, zero, suc, ◌+◌, ◌-◌, ◌*�
 use native.Mathlib.Nat.{div-eq_of_lt, mod-one}
 use lib.Bits.{bit_and, bit_or, and_step, and_shr, or_step, or_shr}
 use lib.Pow.{pow-lt, shl-shr, mod-pow-add, field, mod-mod-pow}
-use Rattle.std.proofs.lemmas.Nat.{and_mask, one_shl, mod_below}
+use Rattle.std.proofs.lemmas.Nat.{one_shl, mod_below}
 use Rattle.std.proofs.lemmas.Bool.{cases_lt, cases_eq, eqb-true, eqb-false, eq-eqb, ne_eqb}
 use Rattle.runs.specs.Bits.{bit}
 
@@ -25,13 +25,6 @@ is_naught w j e = ne_eqb (digit w j) 1 (λ q. omega arith)
 
 pub same : (v w i j : ℕ) → digit v i ≡ digit w j → bit v i ≡ bit w j
 same v w i j e = ap (λ n. eqb n 1) e
-
--- the test of a bit, as code writes it
-pub bit_on : (w j : ℕ) → bit_and (w / 2 ^ j) 1 ≡ 1 → bit w j ≡ true
-bit_on w j e = is_one w j (sym (and_mask (w / 2 ^ j) 1) ∙ e)
-
-pub bit_off : (w j : ℕ) → (bit_and (w / 2 ^ j) 1 ≡ 1 → ⊥) → bit w j ≡ false
-bit_off w j ne = ne_eqb (digit w j) 1 (λ e. ne (and_mask (w / 2 ^ j) 1 ∙ e))
 
 -- no bit past the width
 pub bit_high : (w i k : ℕ) → w < 2 ^ k → k ≤ i → bit w i ≡ false
