@@ -1,9 +1,9 @@
 -- Two slots with a mark between them: where the text ends, and what writing it leaves.
-use Rattle.std.specs.Prelude.{◌≡◌, ℕ, ◌<◌, ◌≤◌, Bool, true, false, cond, List, length, is_ok, Ok, Err, Result, ◌==◌, nat_lt}
+use Rattle.std.specs.Prelude.{◌≡◌, ℕ, ◌<◌, ◌≤◌, Bool, true, false, cond, ◌⊎◌, List, length, is_ok, Ok, Err, Result, ◌==◌, ◌≢◌, nat_lt}
 use Rattle.std.proofs.Math.Path.{refl, ap}
-use Rattle.std.proofs.Common.{sym, ◌∙◌}
+use Rattle.std.proofs.Common.{sym, ◌∙◌, inl, inr}
 use native.Mathlib.Omega.{arith}
-use Rattle.std.proofs.lemmas.Bool.{lt-ltb}
+use Rattle.std.proofs.lemmas.Bool.{cases_eq, eq-eqb, ne_eqb, lt-ltb}
 use Rattle.std.proofs.lemmas.Bool.Decides.{nat_tests}
 use Rattle.text.specs.declared.mark.Mark.{Mark}
 use Rattle.text.specs.declared.refusal.Layer.TheVariants.{Slot}
@@ -14,7 +14,7 @@ use Rattle.text.specs.Words.{place_in}
 use Rattle.text.proofs.Bounds.{mark_within}
 use Rattle.signature.specs.Sets.{Put, nothing}
 use Rattle.signature.specs.Slots.{Reads, set_of, end_of, Within, Past}
-use Rattle.gauges.specs.Pairs.{Parts, parts_at, left_of, right_of, Joins, pair_at}
+use Rattle.gauges.specs.Pairs.{Parts, parts_at, left_of, right_of, Joins, pair_at, Kept}
 use Rattle.text.proofs.Steps.{both, ok_same}
 
 -- where writing was refused, what would have been read next changes nothing
@@ -28,6 +28,11 @@ refused_on false a f x y is = is
 pub written : {A : Type 0} (slot at : ℕ) (a : Result (A × ℕ) Refusal) (e : ℕ) → Ok e ≡ end_of slot at a → (slot < 32) × ((v : A) × (a ≡ Ok (v, e)))
 written slot at (Ok v) e is = let q : v.1 ≡ e = grind (arith, nat_tests) in (grind (arith, nat_tests), (v.0, ap (λ n. Ok (v.0, n)) q))
 written slot at (Err x) e is = absurd (grind (arith, nat_tests))
+
+-- where one of the 32 slots was not written, its text was refused
+not_written : {A : Type 0} (slot at : ℕ) (a : Result (A × ℕ) Refusal) (x : Refusal) → Err x ≡ end_of slot at a → slot < 32 → a ≡ Err x
+not_written slot at (Ok v) x is few = absurd (grind (arith, nat_tests))
+not_written slot at (Err y) x is few = grind (arith, nat_tests)
 
 module _ {L R : Type 0} (mark : Mark) (l : Reads L) (r : Reads R) where
   parts_within : Within l → Within r → (s : List ℕ) (at : ℕ) (p : Parts L R) (e : ℕ) → parts_at mark l r s at ≡ Ok (p, e) → (place_in s at ≤ e) × (e ≤ length s)
@@ -99,7 +104,29 @@ module _ {R : Type 0} (slot : ℕ) where
   pub put_as : (set set' : R → Bool) (before after : ℕ → R → Bool) → set ≡ set' → Put slot set' before after → Put slot set before after
   put_as set set' before after is put j l x = put j l x ∙ ap (λ (f : R → Bool). cond (j == slot) (f x) (before j x)) (sym is)
 
+  pub kept_put : (set : R → Bool) (before after : ℕ → R → Bool) → Put slot set before after → Kept slot before after
+  kept_put set before after put j l ne x = put j l x ∙ rw (ne_eqb j slot ne) refl
+
+  -- what was written in part and then emptied
+  pub emptied : (set : R → Bool) (before middle after : ℕ → R → Bool) → (slot < 32 → (x : R) → set x ≡ false) → Kept slot before middle → Put slot nothing middle after → Put slot set before after
+  emptied set before middle after none kept put j l x = go (cases_eq j slot)
+    where
+      go : (j ≡ slot) ⊎ (j ≢ slot) → after j x ≡ cond (j == slot) (set x) (before j x)
+      go (inl same) = put j l x ∙ rw (eq-eqb j slot same) (sym (none (omega arith) x))
+      go (inr other) = put j l x ∙ rw (ne_eqb j slot other) (kept j l other x)
+
+module _ {L R : Type 0} (slot at : ℕ) (p : Result (Parts L R × ℕ) Refusal) (x : Refusal) (is : Err x ≡ end_of slot at p) where
+  pub left_none : slot < 32 → (y : L) → left_of p y ≡ false
+  left_none few y = rw (not_written slot at p x is few) refl
+
+  pub right_none : slot < 32 → (y : R) → right_of p y ≡ false
+  right_none few y = rw (not_written slot at p x is few) refl
+
 module _ {L R V : Type 0} (join : Joins L R V) where
+  pub end_joined : (slot at : ℕ) (p : Result (Parts L R × ℕ) Refusal) → end_of slot at p ≡ end_of slot at (p then (λ v. Ok (join v.0.left v.0.right, v.1)))
+  end_joined slot at (Ok v) = refl
+  end_joined slot at (Err x) = refl
+
   set_joined : ((x : V) → join nothing nothing x ≡ false) → (p : Result (Parts L R × ℕ) Refusal) (x : V) → join (left_of p) (right_of p) x ≡ set_of (p then (λ v. Ok (join v.0.left v.0.right, v.1))) x
   set_joined empty (Ok v) x = refl
   set_joined empty (Err e) x = empty x
