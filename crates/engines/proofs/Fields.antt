@@ -8,7 +8,8 @@ use Rattle.runs.specs.Gaps.{low, high, spans}
 use Rattle.runs.specs.Signatures.{gaps_of}
 use Rattle.runs.specs.Bits.{bit}
 use Rattle.engines.specs.Blocks.{block}
-use Rattle.engines.specs.Fields.{offset, fields_say, kept}
+use Rattle.engines.specs.declared.layout.Field.{Field}
+use Rattle.engines.specs.Fields.{offset, fields_say, kept, window_at, Opened}
 use Rattle.engines.specs.Memory.{Memory, Seen, Moved}
 use Rattle.engines.proofs.Bits.{bit_zero, bit_high, and_on, and_off, or_on, or_off, or_off_left, double_low, double_suc, bit_pow_same, bit_pow_other}
 use Rattle.engines.proofs.Blocks.{block_in, block_below, block_above, meets}
@@ -146,6 +147,13 @@ module _ (s : Signature) (says : Memory) (memory v w t : ℕ) (have : Moved s sa
       (λ (l : t < s.slots - 1). subst (λ x. Moved s says w (fields_say (gaps_of s) (bit_or memory x))) (sym (begun l)) field_set)
       (λ (l : s.slots - 1 ≤ t). subst (λ x. Moved s says w (fields_say (gaps_of s) x)) (sym (ap (bit_or memory) (idle l) ∙ or_zero_r memory)) (field_none (omega arith)))
       (cases_lt t (s.slots - 1))
+
+-- the window of a slot is that of the gap before it
+pub opened_before : (gs : List Gap) (n : ℕ) (fields : List Field) → Opened gs n fields → (t : ℕ) → 1 ≤ t → t - 1 < n
+    → window_at fields t ≡ block (offset gs (t - 1) + low gs (t - 1)) (high gs (t - 1) - low gs (t - 1) + 1)
+opened_before gs n fields opened t h l =
+    let e : suc (t - 1) ≡ t = omega (arith, h) in
+    subst (λ u. window_at fields u ≡ block (offset gs (t - 1) + low gs (t - 1)) (high gs (t - 1) - low gs (t - 1) + 1)) e (opened (t - 1) l)
 
 -- the test of a window tells whether the memory says yes in it
 pub window_tells : (s : Signature) (memory window j : ℕ) → low (gaps_of s) j ≤ high (gaps_of s) j

@@ -8,21 +8,26 @@ use crate::ones::ones;
 use crate::shape::Shape;
 use runs::signature::Signature;
 
+/// What a step reads for a slot.
+#[derive(Clone, Copy)]
+pub struct Field {
+    // the bits at the distances that the gap before the slot allows, in the field of the slot before; 0 for the first slot
+    pub window: u64,
+    // the first bit of the slot's own field, and 0 where it has none
+    pub start: u64,
+}
+
 /// Gap j has a field of hi + 1 bits, the newest place first.
 #[derive(Drop)]
 pub struct Layout {
     pub shape: Shape,
-    // two arrays: with one array of starts and windows a step takes a tenth longer;
-    // for each slot but the last the first bit of its field, and 0 for the others
-    pub starts: [u64; 32],
-    // for each gap the bits of its field at the distances that it allows
-    pub windows: [u64; 31],
+    pub fields: [Field; 32],
     // every bit of the fields but the top bit of each
     pub keep: u64,
     ghost room: { offset (gaps_of shape.signature) (shape.signature.slots - 1) ≤ 63 },
-    ghost begun: { Begun (gaps_of shape.signature) (shape.signature.slots - 1) starts },
-    ghost idle: { Idle (shape.signature.slots - 1) starts },
-    ghost opened: { Opened (gaps_of shape.signature) (shape.signature.slots - 1) windows },
+    ghost begun: { Begun (gaps_of shape.signature) (shape.signature.slots - 1) fields },
+    ghost idle: { Idle (shape.signature.slots - 1) fields },
+    ghost opened: { Opened (gaps_of shape.signature) (shape.signature.slots - 1) fields },
     ghost stays: { keep ≡ kept (gaps_of shape.signature) (shape.signature.slots - 1) },
 }
 
@@ -33,21 +38,22 @@ impl Layout {
         ensures { result.shape.signature ≡ signature.now }
     {
         let gaps = signature.used_gaps();
-        let mut starts = [0; 32];
-        let mut windows = [0; 31];
+        let mut fields = [Field {
+            window: 0,
+            start: 0,
+        }; 32];
         let mut keep = 0;
         let mut at = 0;
-        // by an index, since both arrays, `keep` and `at` go along
+        // by an index, since a gap writes to two fields, and `keep` and `at` grow with them
         for (j, gap) in gaps.iter().enumerate() {
-            starts[j] = 1u64 << at;
-            windows[j] = ones(at + gap.lo as u32, (gap.hi - gap.lo) as u32 + 1);
+            fields[j].start = 1u64 << at;
+            fields[j + 1].window = ones(at + gap.lo as u32, (gap.hi - gap.lo) as u32 + 1);
             keep |= ones(at, gap.hi as u32);
             at += gap.hi as u32 + 1;
         }
         Layout {
             shape: Shape::new(signature),
-            starts,
-            windows,
+            fields,
             keep,
         }
     }

@@ -73,6 +73,7 @@ impl Engine for Masks {
         };
     }
 
+    // as in `Ring::step`: one trait more, of what finds the word and pushes it, would be longer than both
     fn step(&mut self, fits: u32) -> u32 {
         let word = self.word(fits);
         self.push(word);
@@ -82,12 +83,13 @@ impl Engine for Masks {
     fn stretch(&mut self, words: &mut [u32]) {
         let signature = self.windows.shape.signature;
         let done = mark_strips(&signature, &mut self.masks, words);
-        // the loop of `Engine::stretch` again: a function of both would call back into this block, and such a call gets no proof
+        // the loop of `Engine::stretch` again: for a function over any engine, the check says that a method of this block leads back to it
         for word in &mut words[done..] {
             *word = self.step(*word);
         }
     }
 
+    // as in `Word::resume`: one trait more, of what empties and pushes, would be longer than both
     fn resume(&mut self, words: &[u32]) {
         self.masks = [0; 31];
         let from = words.len().saturating_sub(64);

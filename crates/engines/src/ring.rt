@@ -84,6 +84,7 @@ impl Engine for Ring {
         };
     }
 
+    // as in `Masks::step`: one trait more, of what finds the word and pushes it, would be longer than both
     fn step(&mut self, fits: u32) -> u32 {
         let word = self.word(fits);
         self.push(word);

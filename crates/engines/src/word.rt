@@ -33,9 +33,9 @@ impl Word {
     {
         let mut memory = (self.memory & self.layout.keep) << 1;
         let used = self.layout.shape.signature.used_gaps().len();
-        for (j, start) in self.layout.starts[..used].iter().enumerate() {
+        for (j, field) in self.layout.fields[..used].iter().enumerate() {
             if bears(word, j as u32) {
-                memory |= *start;
+                memory |= field.start;
             }
         }
         self.memory = memory;
@@ -66,15 +66,17 @@ impl Engine for Word {
         while left != 0 {
             let j = left.trailing_zeros() as usize;
             left &= left - 1;
-            if self.memory & self.layout.windows[j - 1] != 0 {
+            let field = self.layout.fields[j];
+            if self.memory & field.window != 0 {
                 word |= 1 << j;
-                memory |= self.layout.starts[j];
+                memory |= field.start;
             }
         }
         self.memory = memory;
         word
     }
 
+    // as in `Masks::resume`: one trait more, of what empties and pushes, would be longer than both
     fn resume(&mut self, words: &[u32]) {
         self.memory = 0;
         let from = words.len().saturating_sub(64);

@@ -18,11 +18,11 @@ end s gs j at e near l here =
 pub loop-j-init : goal.loop-j-init
 loop-j-init c = laid_none _
 
-pub overflow_cast-starts : goal.overflow_cast-starts
-overflow_cast-starts c = omega (arith, end c.args.signature.now _ _ _ c.used_gaps-gaps.ensures c.requires c.loop-j-test.true c.loop-j.invariant.here)
+pub overflow_cast-fields : goal.overflow_cast-fields
+overflow_cast-fields c = omega (arith, end c.args.signature.now _ _ _ c.used_gaps-gaps.ensures c.requires c.loop-j-test.true c.loop-j.invariant.here)
 
-pub overflow_shl-starts : goal.overflow_shl-starts
-overflow_shl-starts c = omega (arith, end c.args.signature.now _ _ _ c.used_gaps-gaps.ensures c.requires c.loop-j-test.true c.loop-j.invariant.here)
+pub overflow_shl-fields : goal.overflow_shl-fields
+overflow_shl-fields c = omega (arith, end c.args.signature.now _ _ _ c.used_gaps-gaps.ensures c.requires c.loop-j-test.true c.loop-j.invariant.here)
 
 pub overflow_add-at : goal.overflow_add-at
 overflow_add-at c = omega (arith, end c.args.signature.now _ _ _ c.used_gaps-gaps.ensures c.requires c.loop-j-test.true c.loop-j.invariant.here, (gap_sound c.args.signature.now _ _ c.used_gaps-gaps.ensures c.loop-j-test.true).ordered)
@@ -41,7 +41,7 @@ overflow_add-at-in-loop-j-2 c = omega (arith, end c.args.signature.now _ _ _ c.u
 
 pub loop-j-preserved : goal.loop-j-preserved
 loop-j-preserved c =
-    laid_more _ _ _ _ _ _ (gap_sound c.args.signature.now _ _ c.used_gaps-gaps.ensures c.loop-j-test.true).few (omega (arith, end c.args.signature.now _ _ _ c.used_gaps-gaps.ensures c.requires c.loop-j-test.true c.loop-j.invariant.here)) c.loop-j.invariant _ _ c.ones-keep.ensures c.ones.ensures
+    laid_more _ _ _ _ _ (gap_sound c.args.signature.now _ _ c.used_gaps-gaps.ensures c.loop-j-test.true).few (omega (arith, end c.args.signature.now _ _ _ c.used_gaps-gaps.ensures c.requires c.loop-j-test.true c.loop-j.invariant.here)) c.loop-j.invariant _ _ c.ones-keep.ensures c.ones.ensures
 
 pub invariant_of-result : goal.invariant_of-result
 invariant_of-result c =
@@ -50,8 +50,8 @@ invariant_of-result c =
     let same : c.used_gaps-gaps.result.now ≡ gaps_of s = c.used_gaps-gaps.ensures ∙ ap gaps_of (sym c.new.ensures) in
     let n = gaps_length s in
     let e : l.j ≡ s.slots - 1 = omega (arith, c.loop-j-test.false, l.auto.j-end, ap length same) in
-    let laid : Laid (gaps_of s) (s.slots - 1) l.at l.keep l.starts l.windows =
-    subst (λ j. Laid (gaps_of s) j l.at l.keep l.starts l.windows) e (subst (λ (gs : List Gap). Laid gs l.j l.at l.keep l.starts l.windows) same l.invariant) in
+    let laid : Laid (gaps_of s) (s.slots - 1) l.at l.keep l.fields =
+    subst (λ j. Laid (gaps_of s) j l.at l.keep l.fields) e (subst (λ (gs : List Gap). Laid gs l.j l.at l.keep l.fields) same l.invariant) in
     record {
       room = omega (arith, ap (offset (gaps_of s)) n, spans_offset (gaps_of s), ap (λ (s : Signature). reach (gaps_of s)) c.new.ensures, c.requires);
       begun = laid.begun;
