@@ -11,6 +11,7 @@ use runs::bits::bears;
 use runs::signature::Signature;
 
 /// Bit d of `masks[j]` says whether a run of the first j + 1 slots ended d places before the latest: it takes every signature.
+// Beside the windows of the gaps, and no array of both: these stay while the masks move, and strips take the masks alone.
 #[derive(Drop)]
 pub struct Masks {
     windows: Windows,

@@ -15,6 +15,8 @@ mod slots;
 mod turn;
 mod window;
 
+// Signature and masks stay two parameters: they are parts of an engine, of which only the masks change.
+
 // A strip with W slots at most.
 fn mark<const W: usize>(signature: &Signature, masks: &mut [u64; 31], strip: &mut [u32; 64])
     requires width { Width W }

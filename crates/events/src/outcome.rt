@@ -5,6 +5,7 @@ ghost use Rattle.events.specs.Outcomes.{outcome_of};
 use text::refusal::Refusal;
 
 /// The number of a refusal and its place, or 0 and 0 and the number of hits.
+// Numbers, and 0 for none: an enum does not cross to C.
 #[repr(C)]
 #[derive(Clone, Copy)]
 pub struct Outcome {

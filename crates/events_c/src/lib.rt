@@ -12,6 +12,8 @@ use events::outcome::Outcome;
 use events::searching::search_codes;
 use runs::signature::Signature;
 
+// One function an engine: C calls them by these names, and passes no type.
+
 /// With the word engine, which takes a reach of 64.
 #[unsafe(no_mangle)]
 pub extern "C" fn search_word(text: &[u8], codes: &[u8], sheet: &mut [u32]) -> Outcome

@@ -5,7 +5,7 @@ ghost use Rattle.job.specs.Files.{held, parts_of};
 use text::refusal::Refusal;
 
 /// The most bytes that a job file may have.
-const LARGEST: usize = 16_384;
+pub(crate) const LARGEST: usize = 16_384;
 
 /// The parts of a job file.
 #[derive(Clone, Copy)]

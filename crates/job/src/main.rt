@@ -7,12 +7,13 @@ mod run;
 #[cfg(test)]
 mod tests;
 
+use job_file::LARGEST;
 use run::run_job;
 use std::io;
 use std::io::Read;
 
 /// One byte more than a job file may have.
-const ENOUGH: u64 = 16_385;
+const ENOUGH: u64 = LARGEST as u64 + 1;
 
 fn main(rt: HostRuntime) -> io::Result<()> {
     let mut file = Vec::new(rt.alloc());

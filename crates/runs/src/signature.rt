@@ -7,6 +7,7 @@ use crate::gap::Gap;
 mod methods;
 
 /// `gaps[j]` lies between slot j and slot j + 1; those from `slots - 1` on mean nothing.
+// Fixed memory, since a search has no heap; and a number beside the list, since no slots and one slot both have no gaps.
 #[derive(Clone, Copy)]
 pub struct Signature {
     pub slots: u32,

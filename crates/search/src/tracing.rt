@@ -7,6 +7,8 @@ use runs::bits::bears;
 use runs::signature::Signature;
 use text::refusal::Refusal;
 
+// Signature and sheet stay two parameters: a record owns the one and its caller the other, so a pair would be made anew for each call.
+
 // The latest place before `place`, within the gap behind the slot, that bears the slot's mark.
 fn latest(signature: &Signature, sheet: &[u32], slot: usize, place: usize) -> Option<usize>
     requires slot { suc slot < signature.now.slots }

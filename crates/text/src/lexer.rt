@@ -21,7 +21,9 @@ fn count_digits(text: &[u8]) -> usize
     text.iter().take_while(|byte| byte.is_ascii_digit()).count()
 }
 
-// No cursor in place of text and place: a slot's writer is lent any text and place, and after a refusal a cursor's place would need a promise too.
+// Text and place stay two parameters: a slot's writer is lent any text and place and answers a place, so that a cursor would be made and
+// taken apart at each nested call.
+
 /// The word that begins at a place; a place past the text counts as its end.
 pub fn next_word<'a>(text: &'a [u8], at: usize) -> Word<'a>
     ensures { seen result ≡ word_at text.now at }

@@ -2,23 +2,27 @@
 ghost use Rattle.std.specs.Prelude.{◌≡◌, length};
 
 use gauges::event::Event;
-use runs::bits::bears;
 use runs::gap::Gap;
 use runs::signature::Signature;
 use signature::gauge::Gauge;
+
+// Whether a word has the bit of a slot. Not the test that the engines use: the two are compared.
+fn is_set(word: u32, slot: u32) -> bool {
+    word.checked_shr(slot).is_some_and(|rest| rest % 2 == 1)
+}
 
 // Whether one of the words before a place, the last of them the nearest, bears the slot's mark within the gap.
 fn has_earlier(words: &[u32], gap: Gap, slot: u32) -> bool {
     let within = usize::from(gap.lo)..=usize::from(gap.hi);
     words.iter().rev().enumerate().any(|(between, word)| within.contains(&between)
-        && bears(*word, slot))
+        && is_set(*word, slot))
 }
 
 // The word of a place behind these words, whose reading has these fits.
 fn plain_word(words: &[u32], signature: &Signature, fits: u32) -> u32 {
     let mut word = fits & 1;
     for slot in 1..signature.slots {
-        if bears(fits, slot) && has_earlier(words, signature.gaps[slot as usize - 1], slot - 1) {
+        if is_set(fits, slot) && has_earlier(words, signature.gaps[slot as usize - 1], slot - 1) {
             word |= 1 << slot;
         }
     }
