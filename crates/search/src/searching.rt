@@ -26,7 +26,14 @@ fn try_all<G: Gauge>(gauge: &G, readings: &[G::Reading], sheet: &mut [u32])
 fn count_marked(sheet: &[u32], slot: u32) -> usize
     ensures { result ≡ bearing slot sheet.now }
 {
-    sheet.iter().filter(|word| bears(**word, slot)).count()
+    // by a loop: as a chain it takes a branch a word, and a search with many hits three times as long
+    let mut count = 0;
+    for word in sheet {
+        if bears(*word, slot) {
+            count += 1;
+        }
+    }
+    count
 }
 
 /// Writes the mark word of each place into the sheet and answers the number of hits, with an engine of its own.
