@@ -47,7 +47,8 @@ impl Ring {
         ensures { Decides result (Seen self.now.shape.signature (past_says self.now.past self.now.next) j) }
     {
         let gap = gap_at(&self.shape.signature, j);
-        (gap.lo as usize..gap.hi as usize + 1).any(|d| bears(self.ago(d), j))
+        // half open: no lemma says what `any` finds over `lo..=hi`
+        (usize::from(gap.lo)..usize::from(gap.hi) + 1).any(|d| bears(self.ago(d), j))
     }
 
     // The mark word of the next place.

@@ -61,7 +61,7 @@ impl Engine for Word {
     fn step(&mut self, fits: u32) -> u32 {
         // the word is found and taken into the memory in one loop: with `word` of the shape and `push` a step takes a third longer
         let mut word = fits & 1;
-        let mut memory = ((self.memory & self.layout.keep) << 1) | word as u64;
+        let mut memory = ((self.memory & self.layout.keep) << 1) | u64::from(word);
         let mut left = fits & self.layout.shape.later;
         while left != 0 {
             let j = left.trailing_zeros() as usize;
