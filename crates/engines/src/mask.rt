@@ -24,10 +24,17 @@ impl Masks {
         ensures shape { Blank result.windows.shape.signature }
         ensures memory { (j d : ℕ) → masks_say result.masks j d ≡ false }
     {
-        let masks = [0; 31];
+        Self::of(&Signature::new())
+    }
+
+    // An engine of a signature, before any place.
+    fn of(signature: &Signature) -> Masks
+        ensures shape { result.windows.shape.signature ≡ signature.now }
+        ensures memory { (j d : ℕ) → masks_say result.masks j d ≡ false }
+    {
         Masks {
-            windows: Windows::new(&Signature::new()),
-            masks,
+            windows: Windows::new(signature),
+            masks: [0; 31],
         }
     }
 
@@ -68,10 +75,7 @@ impl Engine for Masks {
     ghost says = { λ e. masks_say e.masks };
 
     fn make(&mut self, signature: &Signature) {
-        *self = Masks {
-            windows: Windows::new(signature),
-            masks: [0; 31],
-        };
+        *self = Self::of(signature);
     }
 
     // as in `Ring::step`: one trait more, of what finds the word and pushes it, would be longer than both

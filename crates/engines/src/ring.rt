@@ -25,10 +25,17 @@ impl Ring {
         ensures shape { Blank result.shape.signature }
         ensures memory { (j d : ℕ) → past_says result.past result.next j d ≡ false }
     {
-        let past = [0; 64];
+        Self::of(&Signature::new())
+    }
+
+    // An engine of a signature, before any place.
+    fn of(signature: &Signature) -> Ring
+        ensures shape { result.shape.signature ≡ signature.now }
+        ensures memory { (j d : ℕ) → past_says result.past result.next j d ≡ false }
+    {
         Ring {
-            shape: Shape::new(&Signature::new()),
-            past,
+            shape: Shape::new(signature),
+            past: [0; 64],
             next: 0,
         }
     }
@@ -78,11 +85,7 @@ impl Engine for Ring {
     ghost says = { λ e. past_says e.past e.next };
 
     fn make(&mut self, signature: &Signature) {
-        *self = Ring {
-            shape: Shape::new(signature),
-            past: [0; 64],
-            next: 0,
-        };
+        *self = Self::of(signature);
     }
 
     // as in `Masks::step`: one trait more, of what finds the word and pushes it, would be longer than both

@@ -1,5 +1,6 @@
 //! The engine that keeps its whole memory in one word.
-ghost use Rattle.std.specs.Prelude.{◌≡◌, ℕ, false};
+ghost use Rattle.std.specs.Prelude.{◌≡◌, ℕ, ◌≤◌, false};
+ghost use Rattle.runs.specs.Gaps.{reach};
 ghost use Rattle.runs.specs.Signatures.{gaps_of, Blank};
 ghost use Rattle.engines.specs.Fields.{fields_say};
 ghost use Rattle.engines.specs.Memory.{Moved};
@@ -22,8 +23,19 @@ impl Word {
         ensures shape { Blank result.layout.shape.signature }
         ensures memory { (j d : ℕ) → fields_say (gaps_of result.layout.shape.signature) result.memory j d ≡ false }
     {
-        let layout = Layout::new(&Signature::new());
-        Word { layout, memory: 0 }
+        Self::of(&Signature::new())
+    }
+
+    // An engine of a signature, before any place.
+    fn of(signature: &Signature) -> Word
+        requires { reach (gaps_of signature.now) ≤ 64 }
+        ensures shape { result.layout.shape.signature ≡ signature.now }
+        ensures memory { (j d : ℕ) → fields_say (gaps_of result.layout.shape.signature) result.memory j d ≡ false }
+    {
+        Word {
+            layout: Layout::new(signature),
+            memory: 0,
+        }
     }
 
     // Each field moves by one place, and takes its bit of `word`.
@@ -52,10 +64,7 @@ impl Engine for Word {
     ghost says = { λ e. fields_say (gaps_of e.layout.shape.signature) e.memory };
 
     fn make(&mut self, signature: &Signature) {
-        *self = Word {
-            layout: Layout::new(signature),
-            memory: 0,
-        };
+        *self = Self::of(signature);
     }
 
     fn step(&mut self, fits: u32) -> u32 {
