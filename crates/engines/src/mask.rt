@@ -4,7 +4,7 @@ ghost use Rattle.runs.specs.Signatures.{Blank};
 ghost use Rattle.engines.specs.Masked.{masks_say};
 ghost use Rattle.engines.specs.Memory.{Seen, Stepped, Moved};
 
-use crate::engine::Engine;
+use crate::engine::{Engine, newest};
 use crate::strips::mark_strips;
 use crate::windows::Windows;
 use runs::bits::bears;
@@ -97,8 +97,7 @@ impl Engine for Masks {
     // as in `Word::resume`: one trait more, of what empties and pushes, would be longer than both
     fn resume(&mut self, words: &[u32]) {
         self.masks = [0; 31];
-        let from = words.len().saturating_sub(64);
-        for word in &words[from..] {
+        for word in newest(words) {
             self.push(*word);
         }
     }

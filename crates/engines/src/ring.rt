@@ -4,7 +4,7 @@ ghost use Rattle.runs.specs.Signatures.{Blank};
 ghost use Rattle.engines.specs.Rings.{ago, past_says};
 ghost use Rattle.engines.specs.Memory.{Seen, Stepped, Moved};
 
-use crate::engine::Engine;
+use crate::engine::{Engine, newest};
 use crate::shape::{Shape, gap_at};
 use runs::bits::bears;
 use runs::signature::Signature;
@@ -96,7 +96,7 @@ impl Engine for Ring {
     }
 
     fn resume(&mut self, words: &[u32]) {
-        let recent = &words[words.len().saturating_sub(64)..];
+        let recent = newest(words);
         let mut past = [0; 64];
         past[..recent.len()].copy_from_slice(recent);
         self.past = past;

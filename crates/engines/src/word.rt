@@ -5,7 +5,7 @@ ghost use Rattle.runs.specs.Signatures.{gaps_of, Blank};
 ghost use Rattle.engines.specs.Fields.{fields_say};
 ghost use Rattle.engines.specs.Memory.{Moved};
 
-use crate::engine::Engine;
+use crate::engine::{Engine, newest};
 use crate::layout::Layout;
 use runs::bits::bears;
 use runs::signature::Signature;
@@ -88,8 +88,7 @@ impl Engine for Word {
     // as in `Masks::resume`: one trait more, of what empties and pushes, would be longer than both
     fn resume(&mut self, words: &[u32]) {
         self.memory = 0;
-        let from = words.len().saturating_sub(64);
-        for word in &words[from..] {
+        for word in newest(words) {
             self.push(*word);
         }
     }
