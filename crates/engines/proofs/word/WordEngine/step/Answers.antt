@@ -1,5 +1,5 @@
 use Rattle.std.proofs.Common.{◌^◌, ◌<◌, not, refl, ap, arith}
-use lib.Bits.{bit_and, and_le_r}
+use lib.Bits.{and_le_r}
 use Rattle.std.proofs.lemmas.Bool.{eqb-false, not-true, ne_eqb}
 use Rattle.runs.specs.Bits.{bit}
 use Rattle.engines.proofs.Bits.{set_same, set_other}
