@@ -20,8 +20,8 @@ module _ (s : Signature) where
   Seen says j = (d : ℕ) × (low (gaps_of s) j ≤ d) × (d ≤ high (gaps_of s) j) × (says j d ≡ true)
 
   -- the answers at each slot but the last tell whether the memory says yes for it
-  abbrev pub Tells : Memory → (ℕ → Bool → Type 0) → Type 0
-  Tells says answers = (j : ℕ) (b : Bool) → suc j < s.slots → answers j b → Decides b (Seen says j)
+  abbrev pub Seeing : Memory → (ℕ → Bool → Type 0) → Type 0
+  Seeing says answers = (j : ℕ) (b : Bool) → suc j < s.slots → answers j b → Decides b (Seen says j)
 
   -- w is the word of a place, where `fits` has a bit for each slot that its reading fits
   pub record Stepped (says : Memory) (fits w : ℕ) : Type 0 where

@@ -1,5 +1,5 @@
 //! What every engine does, whatever it keeps its memory in.
-ghost use Rattle.std.specs.Prelude.{◌≡◌, ℕ, ◌≤◌, Bool, []};
+ghost use Rattle.std.specs.Prelude.{◌≡◌, ℕ, ◌-◌, ◌≤◌, Bool, [], length, drop};
 ghost use Rattle.runs.specs.declared.signature.Signature.{Signature};
 ghost use Rattle.runs.specs.Gaps.{reach};
 ghost use Rattle.runs.specs.Signatures.{gaps_of};
@@ -8,6 +8,13 @@ ghost use Rattle.engines.specs.Memory.{Stepped, Moved, Recalls, Chain, nth_gap};
 use crate::shape::gap_at;
 use runs::gap::Gap;
 use runs::signature::Signature;
+
+// The words that a memory can hold: no gap allows a distance past 63.
+pub(crate) fn newest(words: &[u32]) -> &[u32]
+    ensures { result.now ≡ drop (length words.now - 64) words.now }
+{
+    &words[words.len().saturating_sub(64)..]
+}
 
 /// An engine means the slots and gaps of a signature, and a memory.
 pub trait Engine: Sized {

@@ -47,9 +47,9 @@ impl Layout {
         // by an index, since a gap writes to two fields, and `keep` and `at` grow with them
         for (j, gap) in gaps.iter().enumerate() {
             fields[j].start = 1u64 << at;
-            fields[j + 1].window = ones(at + gap.lo as u32, (gap.hi - gap.lo) as u32 + 1);
-            keep |= ones(at, gap.hi as u32);
-            at += gap.hi as u32 + 1;
+            fields[j + 1].window = ones(at + u32::from(gap.lo), u32::from(gap.hi - gap.lo) + 1);
+            keep |= ones(at, u32::from(gap.hi));
+            at += u32::from(gap.hi) + 1;
         }
         Layout {
             shape: Shape::new(signature),

@@ -4,7 +4,7 @@ ghost use Rattle.runs.specs.Signatures.{Blank};
 ghost use Rattle.engines.specs.Masked.{masks_say};
 ghost use Rattle.engines.specs.Memory.{Seen, Stepped, Moved};
 
-use crate::engine::Engine;
+use crate::engine::{Engine, newest};
 use crate::strips::mark_strips;
 use crate::windows::Windows;
 use runs::bits::bears;
@@ -24,10 +24,17 @@ impl Masks {
         ensures shape { Blank result.windows.shape.signature }
         ensures memory { (j d : ℕ) → masks_say result.masks j d ≡ false }
     {
-        let masks = [0; 31];
+        Self::of(&Signature::new())
+    }
+
+    // An engine of a signature, before any place.
+    fn of(signature: &Signature) -> Masks
+        ensures shape { result.windows.shape.signature ≡ signature.now }
+        ensures memory { (j d : ℕ) → masks_say result.masks j d ≡ false }
+    {
         Masks {
-            windows: Windows::new(&Signature::new()),
-            masks,
+            windows: Windows::new(signature),
+            masks: [0; 31],
         }
     }
 
@@ -68,10 +75,7 @@ impl Engine for Masks {
     ghost says = { λ e. masks_say e.masks };
 
     fn make(&mut self, signature: &Signature) {
-        *self = Masks {
-            windows: Windows::new(signature),
-            masks: [0; 31],
-        };
+        *self = Self::of(signature);
     }
 
     // as in `Ring::step`: one trait more, of what finds the word and pushes it, would be longer than both
@@ -93,8 +97,7 @@ impl Engine for Masks {
     // as in `Word::resume`: one trait more, of what empties and pushes, would be longer than both
     fn resume(&mut self, words: &[u32]) {
         self.masks = [0; 31];
-        let from = words.len().saturating_sub(64);
-        for word in &words[from..] {
+        for word in newest(words) {
             self.push(*word);
         }
     }

@@ -4,7 +4,7 @@ ghost use Rattle.runs.specs.Signatures.{Blank};
 ghost use Rattle.engines.specs.Rings.{ago, past_says};
 ghost use Rattle.engines.specs.Memory.{Seen, Stepped, Moved};
 
-use crate::engine::Engine;
+use crate::engine::{Engine, newest};
 use crate::shape::{Shape, gap_at};
 use runs::bits::bears;
 use runs::signature::Signature;
@@ -25,10 +25,17 @@ impl Ring {
         ensures shape { Blank result.shape.signature }
         ensures memory { (j d : ℕ) → past_says result.past result.next j d ≡ false }
     {
-        let past = [0; 64];
+        Self::of(&Signature::new())
+    }
+
+    // An engine of a signature, before any place.
+    fn of(signature: &Signature) -> Ring
+        ensures shape { result.shape.signature ≡ signature.now }
+        ensures memory { (j d : ℕ) → past_says result.past result.next j d ≡ false }
+    {
         Ring {
-            shape: Shape::new(&Signature::new()),
-            past,
+            shape: Shape::new(signature),
+            past: [0; 64],
             next: 0,
         }
     }
@@ -47,7 +54,8 @@ impl Ring {
         ensures { Decides result (Seen self.now.shape.signature (past_says self.now.past self.now.next) j) }
     {
         let gap = gap_at(&self.shape.signature, j);
-        (gap.lo as usize..gap.hi as usize + 1).any(|d| bears(self.ago(d), j))
+        // half open: no lemma says what `any` finds over `lo..=hi`
+        (usize::from(gap.lo)..usize::from(gap.hi) + 1).any(|d| bears(self.ago(d), j))
     }
 
     // The mark word of the next place.
@@ -77,11 +85,7 @@ impl Engine for Ring {
     ghost says = { λ e. past_says e.past e.next };
 
     fn make(&mut self, signature: &Signature) {
-        *self = Ring {
-            shape: Shape::new(signature),
-            past: [0; 64],
-            next: 0,
-        };
+        *self = Self::of(signature);
     }
 
     // as in `Masks::step`: one trait more, of what finds the word and pushes it, would be longer than both
@@ -92,7 +96,7 @@ impl Engine for Ring {
     }
 
     fn resume(&mut self, words: &[u32]) {
-        let recent = &words[words.len().saturating_sub(64)..];
+        let recent = newest(words);
         let mut past = [0; 64];
         past[..recent.len()].copy_from_slice(recent);
         self.past = past;

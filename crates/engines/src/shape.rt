@@ -1,7 +1,7 @@
 //! What engines read off a signature.
 ghost use Rattle.std.specs.Prelude.{◌≡◌, ℕ, suc, ◌-◌, ◌<◌};
 ghost use Rattle.engines.specs.Blocks.{block};
-ghost use Rattle.engines.specs.Memory.{Memory, Stepped, Tells, nth_gap};
+ghost use Rattle.engines.specs.Memory.{Memory, Stepped, Seeing, nth_gap};
 
 use crate::ones::ones;
 use runs::gap::Gap;
@@ -30,7 +30,7 @@ impl Shape {
     /// The word of a place: the first slot where it fits, and of the later ones that fit slot j + 1 where `seen` says so for slot j.
     pub(crate) fn word<F: Fn(u32) -> bool>(&self, fits: u32, seen: F) -> u32
         requires { (j : ℕ) → suc j < self.now.signature.slots → F.pre seen j }
-        ensures { (says : Memory) → Tells self.now.signature says (F.post seen) → Stepped self.now.signature says fits result }
+        ensures { (says : Memory) → Seeing self.now.signature says (F.post seen) → Stepped self.now.signature says fits result }
     {
         let mut word = fits & 1;
         let mut left = fits & self.later;

@@ -22,9 +22,10 @@ impl Windows {
     {
         Windows {
             shape: Shape::new(signature),
-            allowed: signature
-                .gaps
-                .map(|gap| ones(gap.lo as u32, (gap.hi - gap.lo) as u32 + 1)),
+            allowed: signature.gaps.map(|gap| ones(
+                u32::from(gap.lo),
+                u32::from(gap.hi - gap.lo) + 1,
+            )),
         }
     }
 }

@@ -1,10 +1,11 @@
 //! The engine that keeps its whole memory in one word.
-ghost use Rattle.std.specs.Prelude.{◌≡◌, ℕ, false};
+ghost use Rattle.std.specs.Prelude.{◌≡◌, ℕ, ◌≤◌, false};
+ghost use Rattle.runs.specs.Gaps.{reach};
 ghost use Rattle.runs.specs.Signatures.{gaps_of, Blank};
 ghost use Rattle.engines.specs.Fields.{fields_say};
 ghost use Rattle.engines.specs.Memory.{Moved};
 
-use crate::engine::Engine;
+use crate::engine::{Engine, newest};
 use crate::layout::Layout;
 use runs::bits::bears;
 use runs::signature::Signature;
@@ -22,8 +23,19 @@ impl Word {
         ensures shape { Blank result.layout.shape.signature }
         ensures memory { (j d : ℕ) → fields_say (gaps_of result.layout.shape.signature) result.memory j d ≡ false }
     {
-        let layout = Layout::new(&Signature::new());
-        Word { layout, memory: 0 }
+        Self::of(&Signature::new())
+    }
+
+    // An engine of a signature, before any place.
+    fn of(signature: &Signature) -> Word
+        requires { reach (gaps_of signature.now) ≤ 64 }
+        ensures shape { result.layout.shape.signature ≡ signature.now }
+        ensures memory { (j d : ℕ) → fields_say (gaps_of result.layout.shape.signature) result.memory j d ≡ false }
+    {
+        Word {
+            layout: Layout::new(signature),
+            memory: 0,
+        }
     }
 
     // Each field moves by one place, and takes its bit of `word`.
@@ -52,16 +64,13 @@ impl Engine for Word {
     ghost says = { λ e. fields_say (gaps_of e.layout.shape.signature) e.memory };
 
     fn make(&mut self, signature: &Signature) {
-        *self = Word {
-            layout: Layout::new(signature),
-            memory: 0,
-        };
+        *self = Self::of(signature);
     }
 
     fn step(&mut self, fits: u32) -> u32 {
         // the word is found and taken into the memory in one loop: with `word` of the shape and `push` a step takes a third longer
         let mut word = fits & 1;
-        let mut memory = ((self.memory & self.layout.keep) << 1) | word as u64;
+        let mut memory = ((self.memory & self.layout.keep) << 1) | u64::from(word);
         let mut left = fits & self.layout.shape.later;
         while left != 0 {
             let j = left.trailing_zeros() as usize;
@@ -79,8 +88,7 @@ impl Engine for Word {
     // as in `Masks::resume`: one trait more, of what empties and pushes, would be longer than both
     fn resume(&mut self, words: &[u32]) {
         self.memory = 0;
-        let from = words.len().saturating_sub(64);
-        for word in &words[from..] {
+        for word in newest(words) {
             self.push(*word);
         }
     }

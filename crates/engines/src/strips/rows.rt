@@ -11,7 +11,7 @@ fn gather<const W: usize>(strip: &[u32; 64], row: usize) -> u64
 {
     let mut bits = 0;
     for part in 0..64 / W {
-        bits |= (strip[63 - (W * part + row)] as u64 % (1 << W)) << (W * part);
+        bits |= (u64::from(strip[63 - (W * part + row)]) % (1 << W)) << (W * part);
     }
     bits
 }

@@ -12,9 +12,9 @@ pub(crate) fn reached(gap: Gap, past: u64, here: u64) -> u64
     ensures { Tells (Reached gap.lo gap.hi past here) result }
 {
     let mut later = here;
-    let mut earlier = past << (63 - gap.hi as u32);
+    let mut earlier = past << (63 - u32::from(gap.hi));
     let mut by: u32 = 1;
-    let mut left = (gap.hi - gap.lo) as u32;
+    let mut left = u32::from(gap.hi - gap.lo);
     while by < left {
         later |= later >> by;
         earlier |= earlier << by;
@@ -23,5 +23,5 @@ pub(crate) fn reached(gap: Gap, past: u64, here: u64) -> u64
     }
     later |= later >> left;
     earlier |= earlier << left;
-    ((later >> 1) >> gap.lo as u32) | earlier
+    ((later >> 1) >> u32::from(gap.lo)) | earlier
 }

@@ -3,6 +3,7 @@ use Rattle.runs.specs.declared.gap.Gap.{Gap}
 use Rattle.runs.specs.declared.signature.Signature.{Signature}
 use Rattle.runs.specs.Gaps.{high, reach}
 use Rattle.runs.specs.Signatures.{gaps_of}
+use Rattle.engines.specs.Blocks.{block}
 use Rattle.engines.specs.Fields.{offset}
 use Rattle.engines.proofs.Fields.{inside, spans_offset}
 use Rattle.engines.proofs.Laid.{Laid, laid_none, laid_more}
@@ -41,7 +42,8 @@ overflow_add-at-in-loop-j-2 c = omega (arith, end c.args.signature.now _ _ _ c.u
 
 pub loop-j-preserved : goal.loop-j-preserved
 loop-j-preserved c =
-    laid_more _ _ _ _ _ (gap_sound c.args.signature.now _ _ c.used_gaps-gaps.ensures c.loop-j-test.true).few (omega (arith, end c.args.signature.now _ _ _ c.used_gaps-gaps.ensures c.requires c.loop-j-test.true c.loop-j.invariant.here)) c.loop-j.invariant _ _ c.ones-keep.ensures c.ones.ensures
+    simp (c.from-in-loop-j-3.ensures) (laid_more _ _ _ _ _ (gap_sound c.args.signature.now _ _ c.used_gaps-gaps.ensures c.loop-j-test.true).few (omega (arith, end c.args.signature.now _ _ _ c.used_gaps-gaps.ensures c.requires c.loop-j-test.true c.loop-j.invariant.here)) c.loop-j.invariant _ _ (c.ones-keep.ensures ∙ ap (block c.loop-j.at) c.from-in-loop-j-2.ensures)
+    (simp (c.from.ensures, c.from-in-loop-j.ensures) at c.ones.ensures))
 
 pub invariant_of-result : goal.invariant_of-result
 invariant_of-result c =

@@ -20,5 +20,5 @@ returns c =
     let inv = c.loop-word.invariant in
     record {
       shape = ap (λ (w : Windows). w.shape.signature) inv.0;
-      memory = recalls_all c.args.self.now.windows.shape.signature _ _ _ _ c.saturating_sub-from.ensures c.loop-word-test.false inv.1;
+      memory = recalls_all c.args.self.now.windows.shape.signature c.args.words.now _ _ _ c.newest-word-items.ensures c.loop-word-test.false inv.1;
     }

@@ -15,13 +15,12 @@ any-requires-clause-callable c =
 pub returns : goal.returns
 returns c =
     let me = c.args.self.now in
-    let gap = c.gap_at-gap.result in
     let says : ℕ → Bool = λ d. past_says me.past me.next c.args.j d in
-    let found = any_from_yields_List says _ _ c.any.result c.any.ensures.ran (YieldsList-from_range gap.lo (gap.hi + 1) (gap.hi + 1 - gap.lo) refl refl) (λ x b q h. search (rules, of_calls)) in
-    let tells = any_from says gap.lo (gap.hi + 1 - gap.lo) in
+    let found = any_from_yields_List says _ _ c.any.result c.any.ensures.ran (YieldsList-from_range c.from.result (c.from-2.result + 1) (c.from-2.result + 1 - c.from.result) refl refl) (λ x b q h. search (rules, of_calls)) in
+    let tells = any_from says c.from.result (c.from-2.result + 1 - c.from.result) in
     let g = c.gap_at-gap.ensures in
-    let lo = ap (λ (g : Gap). g.lo) g in
-    let hi = ap (λ (g : Gap). g.hi) g in (
+    let lo = c.from.ensures ∙ ap (λ (g : Gap). g.lo) g in
+    let hi = c.from-2.ensures ∙ ap (λ (g : Gap). g.hi) g in (
       (λ b. let r = tells.0 (sym found ∙ b) in (r.0, omega (arith, r.1, lo), omega (arith, r.2, hi), r.3)),
       (λ h. found ∙ tells.1 (h.0, omega (arith, h.1, lo), omega (arith, h.2, hi), h.3)),
     )

@@ -1,5 +1,4 @@
-use Rattle.std.proofs.Common.{◌≡◌, ◌-◌, ◌%◌, ◌≤◌, List, ◌++◌, ℕ, length, take, drop, replicate, subst, sym, arith, length-drop}
-use Rattle.std.proofs.lemmas.List.{take_rest}
+use Rattle.std.proofs.Common.{◌≡◌, ◌-◌, ◌%◌, ◌≤◌, List, ◌++◌, ℕ, length, drop, replicate, refl, subst, sym, ap, arith, length-drop}
 use Rattle.engines.specs.Memory.{Recalls}
 use Rattle.engines.specs.Rings.{past_says}
 use Rattle.engines.proofs.Recalled.{recalls_recent}
@@ -10,11 +9,10 @@ pub returns-clause-memory : goal.returns-clause-memory
 returns-clause-memory c =
     let s = c.args.self.now.shape.signature in
     let ws = c.args.words.now in
-    let n = c.saturating_sub.result in
-    let recent = take (length ws - n) (drop n ws) in
-    let few : length recent ≤ 64 = simp (take_rest, length-drop) (omega arith) in
+    let recent = c.newest-recent.result.now in
+    let few : length recent ≤ 64 = omega (arith, ap length c.newest-recent.ensures, length-drop (length ws - 64) ws) in
     let copied : c.copy_from_slice.new.self ≡ recent = c.copy_from_slice.ensures.after in
     let past : List ℕ → List ℕ = λ words. words ++ drop (length recent) (replicate 64 0) in
     let have : Recalls s recent (past_says (past recent) (length recent % 64)) = padded_recalls s recent few in
     subst (λ (words : List ℕ). Recalls s ws (past_says (past words) (length recent % 64))) (sym copied)
-    (recalls_recent s ws n _ c.saturating_sub.ensures (subst (λ (xs : List ℕ). Recalls s xs (past_says (past recent) (length recent % 64))) (take_rest ws n) have))
+    (recalls_recent s ws _ _ refl (subst (λ (xs : List ℕ). Recalls s xs (past_says (past recent) (length recent % 64))) c.newest-recent.ensures have))

@@ -1,4 +1,4 @@
-use Rattle.engines.specs.Memory.{Memory, Tells}
+use Rattle.engines.specs.Memory.{Memory, Seeing}
 use Rattle.engines.proofs.Looking.{Looking, Told}
 use Rattle.engines.proofs.shape.Shape.word.Given as goal
 
@@ -6,7 +6,7 @@ use Rattle.engines.proofs.shape.Shape.word.Given as goal
 abbrev pub invariant-loop-left : goal.invariant-loop-left
 invariant-loop-left g l =
     let s = l.self.signature in
-    Looking s l.fits l.left l.word × ((says : Memory) → Tells s says (goal.F-post g l.seen) → Told s says l.fits l.left l.word)
+    Looking s l.fits l.left l.word × ((says : Memory) → Seeing s says (goal.F-post g l.seen) → Told s says l.fits l.left l.word)
 
 abbrev pub decreases-loop-left : goal.decreases-loop-left
 decreases-loop-left g l = l.left

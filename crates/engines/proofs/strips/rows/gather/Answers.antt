@@ -3,7 +3,7 @@ use Rattle.engines.proofs.Packed.{places, pieces_more}
 use Rattle.engines.proofs.strips.rows.gather.Goals as goal
 
 pub loop-part-preserved : goal.loop-part-preserved
-loop-part-preserved g c = pieces_more g.row.W (places c.requires.width) c.args.strip.now c.args.row c.loop-part.part c.loop-part.bits c.loop-part-test.true c.requires.row c.loop-part.invariant
+loop-part-preserved g c = simp (c.from.ensures) (pieces_more g.row.W (places c.requires.width) c.args.strip.now c.args.row c.loop-part.part c.loop-part.bits c.loop-part-test.true c.requires.row c.loop-part.invariant)
 
 pub returns : goal.returns
 returns g c = λ k l.

@@ -21,5 +21,5 @@ returns c =
     let le : left ≤ by - 1 + 1 = omega arith in
     let e : by - 1 + left ≡ gap.hi - gap.lo = omega arith in
     let small : c.args.here < 2 ^ 64 = search rules in
-    window_tells gap.lo gap.hi c.args.past c.args.here _ _ c.requires.ordered c.requires.narrow small
-    (down_to _ (by - 1) _ left _ le e c.loop-by.invariant.2) (up_to _ (by - 1) _ left _ le e c.loop-by.invariant.3)
+    simp (c.from-2.ensures) (window_tells gap.lo gap.hi c.args.past c.args.here _ _ c.requires.ordered c.requires.narrow small
+    (down_to _ (by - 1) _ left _ le e c.loop-by.invariant.2) (up_to _ (by - 1) _ left _ le e c.loop-by.invariant.3))

@@ -21,5 +21,5 @@ returns c =
     let inv = c.loop-word.invariant in
     record {
       shape = ap (λ (l : Layout). l.shape.signature) inv.0;
-      memory = recalls_all c.args.self.now.layout.shape.signature _ _ _ _ c.saturating_sub-from.ensures c.loop-word-test.false inv.1;
+      memory = recalls_all c.args.self.now.layout.shape.signature c.args.words.now _ _ _ c.newest-word-items.ensures c.loop-word-test.false inv.1;
     }

@@ -1,10 +1,12 @@
 use Rattle.std.proofs.Common.{◌^◌, ◌<◌, not, refl, ap, arith}
-use lib.Bits.{bit_and, and_le_r}
+use lib.Bits.{and_le_r}
 use Rattle.std.proofs.lemmas.Bool.{eqb-false, not-true, ne_eqb}
+use Rattle.runs.specs.Bits.{bit}
 use Rattle.engines.proofs.Bits.{set_same, set_other}
 use Rattle.engines.proofs.Fields.{moved_first, moved_set, opened_before, window_tells}
 use Rattle.engines.proofs.LowBit.{low_bit}
 use Rattle.engines.proofs.Looking.{looking_first, told_first, looking_skip, told_skip, looking_set, told_set, looked, next_slot}
+use Rattle.engines.proofs.Recalled.{moved_word}
 use Rattle.engines.proofs.Signatures.{gap_ordered}
 use Rattle.engines.proofs.word.WordEngine.step.Goals as goal
 
@@ -12,8 +14,8 @@ pub loop-left-init : goal.loop-left-init
 loop-left-init c =
     let at = c.args.self.now.layout in
     let s = at.shape.signature in
-    let small : bit_and c.args.fits 1 < 2 ^ 1 = omega (arith, and_le_r c.args.fits 1) in
-    (looking_first s _ (omega arith) _ at.shape.after, told_first s _ (omega arith) _ at.shape.after _, moved_first s at.room _ at.keep at.stays _ small)
+    let small : c.from.result < 2 ^ 1 = omega (arith, and_le_r c.args.fits 1, c.from.ensures) in
+    (looking_first s _ (omega arith) _ at.shape.after, told_first s _ (omega arith) _ at.shape.after _, moved_word s _ _ _ _ (λ j _. ap (λ w. bit w j) c.from.ensures) (moved_first s at.room _ at.keep at.stays _ small))
 
 pub loop-left-preserved-then-self-field-ne0 : goal.loop-left-preserved-then-self-field-ne0
 loop-left-preserved-then-self-field-ne0 c =
