@@ -6,8 +6,9 @@ ghost use Rattle.gauges.specs.Tables.{held};
 ghost use Rattle.gauges.specs.Ends.{event_within, event_past};
 
 use crate::codes::{Codes, read_codes};
+use crate::slots::check_slot;
 use signature::gauge::{Gauge, WrittenGauge};
-use text::refusal::{Layer, Refusal};
+use text::refusal::Refusal;
 
 /// A table of codes: bit j of an entry says that the code is in the set of slot j.
 #[derive(Drop)]
@@ -73,13 +74,8 @@ impl WrittenGauge for Event {
     ghost past = { event_past };
 
     fn write_slot(&mut self, slot: u32, text: &[u8], at: usize) -> Result<usize, Refusal> {
-        if slot >= 32 {
-            return Err(Refusal::ExtraSlot {
-                layer: Layer::Slot,
-                place: at,
-            });
-        }
-        // As in `Current`, but for how a set is kept: a trait for the two would be longer than these three lines.
+        // As in `Current`, but for how a set is kept: a trait for the two would be longer than these four lines.
+        check_slot(slot, at)?;
         let read = read_codes(text, at);
         self.mark_codes(slot, &read.map_or(Codes::new(), |read| read.value));
         Ok(read?.end)

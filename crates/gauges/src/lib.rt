@@ -11,4 +11,5 @@ pub mod entry;
 pub mod event;
 pub mod grammar;
 pub mod pair;
+mod slots;
 pub mod texts;
