@@ -4,7 +4,7 @@ ghost use Rattle.gauges.specs.Currents.{current_at, held_by, banded};
 ghost use Rattle.gauges.specs.Bands.{current_within, current_past};
 
 use crate::band::{Band, read_band};
-use crate::event::with_bit;
+use crate::bits::with_bit;
 use crate::slots::check_slot;
 use signature::gauge::{Gauge, WrittenGauge};
 use text::refusal::Refusal;

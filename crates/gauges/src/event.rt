@@ -5,6 +5,7 @@ ghost use Rattle.gauges.specs.Codes.{event_at};
 ghost use Rattle.gauges.specs.Tables.{held};
 ghost use Rattle.gauges.specs.Ends.{event_within, event_past};
 
+use crate::bits::with_bit;
 use crate::codes::{Codes, read_codes};
 use crate::slots::check_slot;
 use signature::gauge::{Gauge, WrittenGauge};
@@ -33,19 +34,6 @@ impl Event {
         for (code, entry) in self.table.iter_mut().enumerate() {
             *entry = with_bit(*entry, slot, codes.has(code as u8));
         }
-    }
-}
-
-// The entry with the slot's bit on or off.
-#[tactic(auto, using(crate::proofs::Words::bit_set, crate::proofs::Words::bit_cleared))]
-pub(crate) fn with_bit(entry: u32, slot: u32, on: bool) -> u32
-    requires { slot < 32 }
-    ensures { (j : ℕ) → bit result j ≡ (if nat_eq j slot then on else bit entry j) }
-{
-    if on {
-        entry | (1 << slot)
-    } else {
-        entry & !(1 << slot)
     }
 }
 

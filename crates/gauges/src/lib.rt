@@ -3,6 +3,7 @@
 
 pub mod band;
 pub mod barring;
+mod bits;
 pub mod both;
 pub mod codes;
 pub mod current;
