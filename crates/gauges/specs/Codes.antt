@@ -9,7 +9,7 @@ use Rattle.text.specs.Refusals.{◌then◌}
 use Rattle.text.specs.Numbers.{number_at}
 use Rattle.text.specs.Marks.{is_mark, mark_taken}
 use Rattle.text.specs.declared.parsed.Parsed.{Parsed}
-use Rattle.gauges.specs.declared.codes.Member.{Member}
+use Rattle.gauges.specs.declared.code_set.Member.{Member}
 use Rattle.signature.specs.Slots.{Reads}
 
 -- a code, or two codes with `:` between, of which the first is no greater

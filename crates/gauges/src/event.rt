@@ -6,7 +6,8 @@ ghost use Rattle.gauges.specs.Tables.{held};
 ghost use Rattle.gauges.specs.Ends.{event_within, event_past};
 
 use crate::bits::with_bit;
-use crate::codes::{Codes, read_codes};
+use crate::code_set::Codes;
+use crate::codes::read_codes;
 use crate::slots::check_slot;
 use signature::gauge::{Gauge, WrittenGauge};
 use text::refusal::Refusal;
