@@ -1,4 +1,4 @@
-//! A set of event codes.
+//! A set of event codes, and the members that it is put together from.
 ghost use Rattle.std.specs.Prelude.{◌≡◌, ℕ, ◌<◌, ◌≤◌, Bool, false, not, ◌||◌, slice_index_or};
 ghost use Rattle.gauges.specs.Codes.{covers};
 

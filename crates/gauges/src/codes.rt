@@ -4,7 +4,7 @@ ghost use Rattle.text.specs.declared.mark.Mark.{Mark};
 ghost use Rattle.gauges.specs.Codes.{member_at, covers_any, members_at, slot_at, holds, behind, ended};
 ghost use Rattle.gauges.specs.Grammar.{ReadsSlot};
 
-use crate::code_set::{Codes, Member};
+pub use crate::code_set::{Codes, Member};
 use text::mark::{Mark, marked, take_mark};
 use text::number::read_number;
 use text::parsed::Parsed;

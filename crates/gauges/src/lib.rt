@@ -5,7 +5,7 @@ pub mod band;
 pub mod barring;
 mod bits;
 pub mod both;
-pub mod code_set;
+mod code_set;
 pub mod codes;
 pub mod current;
 mod edges;
