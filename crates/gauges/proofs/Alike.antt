@@ -13,7 +13,7 @@ use Rattle.text.proofs.Local.{Agree, agree, Local, ok_local, err_local, later_lo
 use Rattle.signature.specs.Refused.{Looks, RefusedAlike}
 use Rattle.signature.proofs.Alike.{refused_alike}
 use Rattle.text.specs.declared.parsed.Parsed.{Parsed}
-use Rattle.gauges.specs.declared.codes.Member.{Member}
+use Rattle.gauges.specs.declared.code_set.Member.{Member}
 use Rattle.gauges.specs.Codes.{member_at, members_from, members_at, slot_at, event_at}
 use Rattle.gauges.specs.Ends.{event_within}
 use Rattle.gauges.proofs.Derived.{member_inside, member_sound}

@@ -13,8 +13,8 @@ use Rattle.text.proofs.Steps.{ok_same, both, ways}
 use Rattle.text.proofs.Bounds.{number_within}
 use Rattle.text.proofs.Derived.{mark_sound, mark_complete, number_sound, number_complete, digit_no_mark, one_mark}
 use Rattle.text.specs.declared.parsed.Parsed.{Parsed}
-use Rattle.gauges.specs.declared.codes.Member.{Member}
-use Rattle.gauges.specs.declared.codes.Codes.{Codes}
+use Rattle.gauges.specs.declared.code_set.Member.{Member}
+use Rattle.gauges.specs.declared.code_set.Codes.{Codes}
 use Rattle.gauges.specs.Codes.{member_at, covers, covers_any, members_from, members_at, Listed, holds, slot_at, event_at, behind, ended}
 use Rattle.gauges.specs.Grammar.{range, MemberText, lone, pair, MembersText, last, more, EventText, code, listed, barred, EventExactly, ReadsSlot}
 

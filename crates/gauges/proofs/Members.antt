@@ -1,7 +1,7 @@
 -- What one turn of `read_members` keeps.
 use Rattle.std.proofs.Common.{◌≡◌, ℕ, zero, suc, ◌+◌, ◌<◌, ◌≤◌, Bool, true, false, ◌||◌, List, [], ◌∷◌, ◌++◌, length, get_or, Ok, Err, Result, sym, refl, ap, ◌∙◌, append_assoc, arith}
 use Rattle.text.specs.declared.parsed.Parsed.{Parsed}
-use Rattle.gauges.specs.declared.codes.Member.{Member}
+use Rattle.gauges.specs.declared.code_set.Member.{Member}
 use Rattle.text.specs.declared.refusal.Refusal.{Refusal}
 use Rattle.text.specs.declared.mark.Mark.{Mark}
 use Rattle.text.specs.declared.mark.Mark.TheVariants.{Space}

@@ -9,7 +9,7 @@ use Rattle.text.specs.Refusals.{◌then◌}
 use Rattle.text.specs.Numbers.{number_at}
 use Rattle.text.specs.Marks.{is_mark, mark_taken}
 use Rattle.text.specs.declared.parsed.Parsed.{Parsed}
-use Rattle.gauges.specs.declared.codes.Member.{Member}
+use Rattle.gauges.specs.declared.code_set.Member.{Member}
 use Rattle.signature.specs.Slots.{Reads}
 
 -- a code, or two codes with `:` between, of which the first is no greater
@@ -65,5 +65,6 @@ event_at s at = slot_at s at then (λ v. Ok ((λ c. nat_lt c 256 && holds v.0 c)
 abbrev pub behind : {V : Type 0} → Result (V × ℕ) Refusal → Result ℕ Refusal
 behind r = r then (λ v. Ok v.1)
 
+-- the same of what the code hands back: there the place is the `end` of a `Parsed`, not the second of a pair
 abbrev pub ended : {V : Type 0} → Result (Parsed V) Refusal → Result ℕ Refusal
 ended r = r then (λ v. Ok v.end)

@@ -12,7 +12,7 @@ use Rattle.text.proofs.Steps.{both, ok_same, ways}
 use Rattle.text.proofs.Bounds.{number_within, number_past, mark_inside, mark_past, mark_within}
 use Rattle.signature.specs.Slots.{Within, Past}
 use Rattle.text.specs.declared.parsed.Parsed.{Parsed}
-use Rattle.gauges.specs.declared.codes.Member.{Member}
+use Rattle.gauges.specs.declared.code_set.Member.{Member}
 use Rattle.gauges.specs.Codes.{member_at, members_from, members_at, Listed, slot_at, event_at}
 
 member_within : (s : List ℕ) (at : ℕ) (m : Parsed Member) → member_at s at ≡ Ok m → (at < m.end) × (m.end ≤ length s)

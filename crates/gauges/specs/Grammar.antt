@@ -5,7 +5,7 @@ use Rattle.text.specs.declared.mark.Mark.TheVariants.{ClassOpen, ClassClose, Bar
 use Rattle.text.specs.declared.refusal.Refusal.{Refusal}
 use Rattle.text.specs.Grammar.{MarkText, NumberText}
 use Rattle.text.specs.declared.parsed.Parsed.{Parsed}
-use Rattle.gauges.specs.declared.codes.Codes.{Codes}
+use Rattle.gauges.specs.declared.code_set.Codes.{Codes}
 use Rattle.gauges.specs.Codes.{event_at, ended}
 
 -- the codes from v to w, both counted

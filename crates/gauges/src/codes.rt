@@ -1,9 +1,10 @@
 //! The text of a slot of event codes: a code, or members in brackets.
-ghost use Rattle.std.specs.Prelude.{◌≡◌, ℕ, ◌+◌, ◌<◌, ◌≤◌, Bool, false, not, ◌||◌, length, IfOk, slice_index_or};
+ghost use Rattle.std.specs.Prelude.{◌≡◌, ℕ, ◌+◌, ◌<◌, ◌≤◌, Bool, false, length, IfOk, slice_index_or};
 ghost use Rattle.text.specs.declared.mark.Mark.{Mark};
-ghost use Rattle.gauges.specs.Codes.{member_at, covers, covers_any, members_at, slot_at, holds, behind, ended};
+ghost use Rattle.gauges.specs.Codes.{member_at, covers_any, members_at, slot_at, holds, behind, ended};
 ghost use Rattle.gauges.specs.Grammar.{ReadsSlot};
 
+pub use crate::code_set::{Codes, Member};
 use text::mark::{Mark, marked, take_mark};
 use text::number::read_number;
 use text::parsed::Parsed;
@@ -11,13 +12,6 @@ use text::refusal::{Layer, Refusal};
 
 /// The greatest event code.
 const LAST: u32 = 255;
-
-/// The codes from `low` to `high`, both counted.
-#[derive(Clone, Copy)]
-pub struct Member {
-    pub low: u8,
-    pub high: u8,
-}
 
 /// A member: a code, or two codes with `:` between, the first no greater.
 pub fn read_member(text: &[u8], at: usize) -> Result<Parsed<Member>, Refusal>
@@ -44,45 +38,6 @@ pub fn read_member(text: &[u8], at: usize) -> Result<Parsed<Member>, Refusal>
         value: Member { low, high },
         end: last.end,
     })
-}
-
-/// A set of event codes.
-#[derive(Clone, Copy)]
-pub struct Codes {
-    has: [bool; 256],
-}
-
-impl Codes {
-    /// The set of no code.
-    pub fn new() -> Codes
-        ensures { (c : ℕ) → slice_index_or result.has c false ≡ false }
-    {
-        Codes { has: [false; 256] }
-    }
-
-    /// Whether the code is in the set.
-    pub fn has(&self, code: u8) -> bool
-        ensures { result ≡ slice_index_or self.now.has code false }
-    {
-        self.has[usize::from(code)]
-    }
-
-    // Puts each code of the member into the set.
-    fn put_member(&mut self, member: Member)
-        requires { member.low ≤ member.high }
-        ensures { (c : ℕ) → slice_index_or self.new.has c false ≡ (slice_index_or self.old.has c false || covers member c) }
-    {
-        self.has[usize::from(member.low)..=usize::from(member.high)].fill(true);
-    }
-
-    // Takes out what is in, and puts in what is not.
-    fn turn(&mut self)
-        ensures { (c : ℕ) → c < 256 → slice_index_or self.new.has c false ≡ not (slice_index_or self.old.has c false) }
-    {
-        for has in self.has.iter_mut() {
-            *has = !*has;
-        }
-    }
 }
 
 // Reads the members up to the closing mark, one space between two.

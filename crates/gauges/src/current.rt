@@ -4,9 +4,10 @@ ghost use Rattle.gauges.specs.Currents.{current_at, held_by, banded};
 ghost use Rattle.gauges.specs.Bands.{current_within, current_past};
 
 use crate::band::{Band, read_band};
-use crate::event::with_bit;
+use crate::bits::with_bit;
+use crate::slots::check_slot;
 use signature::gauge::{Gauge, WrittenGauge};
-use text::refusal::{Layer, Refusal};
+use text::refusal::Refusal;
 
 /// A band for each slot that is not empty.
 #[derive(Drop)]
@@ -53,13 +54,8 @@ impl WrittenGauge for Current {
     ghost past = { current_past };
 
     fn write_slot(&mut self, slot: u32, text: &[u8], at: usize) -> Result<usize, Refusal> {
-        if slot >= 32 {
-            return Err(Refusal::ExtraSlot {
-                layer: Layer::Slot,
-                place: at,
-            });
-        }
-        // As in `Event`, but for how a set is kept: a trait for the two would be longer than these three lines.
+        // As in `Event`, but for how a set is kept: a trait for the two would be longer than these four lines.
+        check_slot(slot, at)?;
         let read = read_band(text, at);
         self.bands[slot as usize] = read.ok().map(|read| read.value);
         Ok(read?.end)

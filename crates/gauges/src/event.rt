@@ -5,9 +5,12 @@ ghost use Rattle.gauges.specs.Codes.{event_at};
 ghost use Rattle.gauges.specs.Tables.{held};
 ghost use Rattle.gauges.specs.Ends.{event_within, event_past};
 
-use crate::codes::{Codes, read_codes};
+use crate::bits::with_bit;
+use crate::code_set::Codes;
+use crate::codes::read_codes;
+use crate::slots::check_slot;
 use signature::gauge::{Gauge, WrittenGauge};
-use text::refusal::{Layer, Refusal};
+use text::refusal::Refusal;
 
 /// A table of codes: bit j of an entry says that the code is in the set of slot j.
 #[derive(Drop)]
@@ -32,19 +35,6 @@ impl Event {
         for (code, entry) in self.table.iter_mut().enumerate() {
             *entry = with_bit(*entry, slot, codes.has(code as u8));
         }
-    }
-}
-
-// The entry with the slot's bit on or off.
-#[tactic(auto, using(crate::proofs::Words::bit_set, crate::proofs::Words::bit_cleared))]
-pub(crate) fn with_bit(entry: u32, slot: u32, on: bool) -> u32
-    requires { slot < 32 }
-    ensures { (j : ℕ) → bit result j ≡ (if nat_eq j slot then on else bit entry j) }
-{
-    if on {
-        entry | (1 << slot)
-    } else {
-        entry & !(1 << slot)
     }
 }
 
@@ -73,13 +63,8 @@ impl WrittenGauge for Event {
     ghost past = { event_past };
 
     fn write_slot(&mut self, slot: u32, text: &[u8], at: usize) -> Result<usize, Refusal> {
-        if slot >= 32 {
-            return Err(Refusal::ExtraSlot {
-                layer: Layer::Slot,
-                place: at,
-            });
-        }
-        // As in `Current`, but for how a set is kept: a trait for the two would be longer than these three lines.
+        // As in `Current`, but for how a set is kept: a trait for the two would be longer than these four lines.
+        check_slot(slot, at)?;
         let read = read_codes(text, at);
         self.mark_codes(slot, &read.map_or(Codes::new(), |read| read.value));
         Ok(read?.end)

@@ -3,7 +3,9 @@
 
 pub mod band;
 pub mod barring;
+mod bits;
 pub mod both;
+mod code_set;
 pub mod codes;
 pub mod current;
 mod edges;
@@ -11,4 +13,5 @@ pub mod entry;
 pub mod event;
 pub mod grammar;
 pub mod pair;
+mod slots;
 pub mod texts;

@@ -1,4 +1,5 @@
-use Rattle.std.proofs.Common.{◌≡◌, Some, None, ap, ◌∙◌, rules}
+use Rattle.std.proofs.Common.{◌≡◌, ◌<◌, Some, None, ap, ◌∙◌, rules, arith}
+use Rattle.std.proofs.lemmas.Bool.Decides.{nat_tests}
 use Rattle.std.proofs.lemmas.Result.{err_from_is_err_and}
 use Rattle.gauges.specs.Currents.{held_by}
 use Rattle.gauges.specs.Bands.{put_band, band_end, band_set, no_band_end, no_band_set}
@@ -9,9 +10,9 @@ returns-in_err-read c =
     let s = c.args.text.now in
     let at = c.args.at in
     let slot = c.args.slot in
-    let few = c.if-slot-ge32.false in
+    let few : slot < 32 = grind (arith, nat_tests, c.in_ok-check_slot.ensures) in
     let is = c.in_err-read.ensures.value in
-    let p = err_from_is_err_and c.from_residual.result c.from_residual.ensures.1 in
+    let p = err_from_is_err_and c.from_residual-in_err-read.result c.from_residual-in_err-read.ensures.1 in
     let none : c.map.result ≡ None = search rules in
     rw (p.1, p.2) (record {
       value = no_band_end s at slot few _ is;
@@ -23,7 +24,7 @@ returns c =
     let s = c.args.text.now in
     let at = c.args.at in
     let slot = c.args.slot in
-    let few = c.if-slot-ge32.false in
+    let few : slot < 32 = grind (arith, nat_tests, c.in_ok-check_slot.ensures) in
     let read = c.in_ok-read.field-0 in
     let is = c.in_ok-read.ensures.value in
     let some : c.map.result ≡ Some read.value = search rules in
