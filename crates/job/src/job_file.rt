@@ -19,19 +19,20 @@ pub fn read_parts<'a>(file: &'a [u8]) -> Result<Parts<'a>, Refusal>
     ensures { held result ≡ parts_of file.now }
 {
     let bytes = file.len();
-    if bytes < 8 || bytes > LARGEST {
-        return Err(Refusal::FileSize {
-            bytes: bytes.min(LARGEST + 1),
-        });
+    let wrong_size = Refusal::FileSize {
+        bytes: bytes.min(LARGEST + 1),
+    };
+    let [t0, t1, t2, t3, c0, c1, c2, c3, rest @ ..] = file else {
+        return Err(wrong_size);
+    };
+    if bytes > LARGEST {
+        return Err(wrong_size);
     }
-    let text = u64::from(u32::from_le_bytes([file[0], file[1], file[2], file[3]]));
-    let codes = u64::from(u32::from_le_bytes([file[4], file[5], file[6], file[7]]));
+    let text = u64::from(u32::from_le_bytes([*t0, *t1, *t2, *t3]));
+    let codes = u64::from(u32::from_le_bytes([*c0, *c1, *c2, *c3]));
     if 8 + text + codes != bytes as u64 {
         return Err(Refusal::FileParts { bytes });
     }
-    let end = 8 + text as usize;
-    Ok(Parts {
-        text: &file[8..end],
-        codes: &file[end..bytes],
-    })
+    let (text, codes) = rest.split_at(text as usize);
+    Ok(Parts { text, codes })
 }

@@ -15,6 +15,7 @@ fn latest(signature: &Signature, sheet: &[u32], slot: usize, place: usize) -> Op
     requires place { place ≤ length sheet.now }
     ensures { result ≡ latest_before (gaps_of signature.now) (sheet_marks sheet.now) slot place }
 {
+    // a loop: in a chain of `map_while` and `find` the closure reads the sheet at an index that no proof can bound
     let gap = signature.gaps[slot];
     for between in usize::from(gap.lo)..=usize::from(gap.hi) {
         let earlier = place.checked_sub(between + 1)?;

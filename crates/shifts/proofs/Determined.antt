@@ -44,7 +44,7 @@ module _ {G E R : Type 0} (M : Meaning G E R) (T : Terms G) where
     -- what is said is what the book computes
     saying : (list : List ℕ) (call : Call R) (r : Reply) (list' : List ℕ) → Stands M T (entered b call) t → Says M T b list call r list' s t
         → (r ≡ reply_to (pattern_by M T) T.room b call) × (list' ≡ list_after (pattern_by M T) T.room b list call)
-    saying list (Append x) r list' after (w, is, tells, lists) = (is ∙ ap (Placed (length xs)) (tells_word P (xs ++ x ∷ []) (length xs) w tells), lists)
+    saying list (Append x) r list' after (w, is, tells, lists) = (is ∙ ap (λ (v : ℕ). Placed (record { place = length xs; word = v })) (tells_word P (xs ++ x ∷ []) (length xs) w tells), lists)
     saying list (Amend p x) r list' after (n, is, mends, lists) =
         let size = length-set xs p x in
         let new : take (length xs) t.sheet ≡ words P (set xs p x) = subst (λ (m : ℕ). take m t.sheet ≡ words P (set xs p x)) size (written (entered b (Amend p x)) t after) in

@@ -72,7 +72,7 @@ module _ {R : Type 0} (f g : ℕ → R → Bool) (gs : List Gap) (same : (j : �
   grant_alike b room Close = refl
 
   reply_alike : (b : Book R) (call : Call R) → reply_to P space b call ≡ reply_to Q space b call
-  reply_alike b (Append x) = ap (Placed (length b.readings)) (word_alike f g gs same (b.readings ++ x ∷ []) (length b.readings))
+  reply_alike b (Append x) = ap (λ (v : ℕ). Placed (record { place = length b.readings; word = v })) (word_alike f g gs same (b.readings ++ x ∷ []) (length b.readings))
   reply_alike b (Amend p x) = (λ i. Reworked (reworked (window gs) p (words_alike f g gs same b.readings i) (words_alike f g gs same (set b.readings p x) i)))
   reply_alike b (Settle n) = refl
   reply_alike b (Word p) = ap Bears (word_alike f g gs same b.readings p)

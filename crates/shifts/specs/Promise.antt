@@ -84,7 +84,7 @@ module _ {G E R : Type 0} (M : Meaning G E R) (T : Terms G) where
 
   -- what a call answers that is taken and not refused, and what its list then holds
   abbrev pub Says : Book R → List ℕ → Call R → Reply → List ℕ → State G E R → State G E R → Type 0
-  Says b list (Append x) r list' s t = (w : ℕ) × (r ≡ Placed (length b.readings) w) × Tells P (b.readings ++ x ∷ []) (length b.readings) w × (list' ≡ list)
+  Says b list (Append x) r list' s t = (w : ℕ) × (r ≡ Placed (record { place = length b.readings; word = w })) × Tells P (b.readings ++ x ∷ []) (length b.readings) w × (list' ≡ list)
   Says b list (Amend p x) r list' s t = (n : ℕ) × (r ≡ Reworked n) × Mends b p n s t × (list' ≡ list)
   Says b list (Settle n) r list' s t = (r ≡ Line n) × (list' ≡ list)
   Says b list (Word p) r list' s t = (w : ℕ) × (r ≡ Bears w) × Tells P b.readings p w × (list' ≡ list)

@@ -20,6 +20,10 @@ plain call = record { call = call; list = []; lent = 8 }
 abbrev listed : Call ℕ → List ℕ → Made ℕ
 listed call list = record { call = call; list = list; lent = 8 }
 
+-- the answer of an append that puts a reading at a place, with its mark word
+abbrev put : ℕ → ℕ → Answer
+put place word = answered (Ok (Placed (record { place = place; word = word }))) []
+
 -- Four readings, a line, and the final hits. A late barcode at place 2 makes a nearer beginning for the hit at 3; one below the line and one past
 -- the end are refused. Then the line goes up, the final hits are named again, and the closed record is asked for the trace.
 abbrev pub worked_calls : List (Made ℕ)
@@ -29,7 +33,7 @@ worked_calls =
 
 abbrev pub worked_answers : List Answer
 worked_answers =
-    answered (Ok (Placed 0 1)) [] ∷ answered (Ok (Placed 1 2)) [] ∷ answered (Ok (Placed 2 0)) [] ∷ answered (Ok (Placed 3 2)) [] ∷ answered (Ok (Line 2)) []
+    put 0 1 ∷ put 1 2 ∷ put 2 0 ∷ put 3 2 ∷ answered (Ok (Line 2)) []
     ∷ answered (Ok (Named 1)) (1 ∷ 9 ∷ 9 ∷ []) ∷ answered (Ok (Reworked 2)) [] ∷ answered (Err (Settled 1)) [] ∷ answered (Err (NoPlace 9)) [] ∷ answered (Ok (Line 4)) []
     ∷ answered (Ok (Named 2)) (1 ∷ 3 ∷ 9 ∷ []) ∷ answered (Ok (Hit (Some 3))) [] ∷ answered (Ok Closed) [] ∷ answered (Ok Traced) (2 ∷ 3 ∷ 9 ∷ []) ∷ []
 

@@ -58,9 +58,7 @@ where
     ensures { Keeps (meaning G.Gauge E.Engine) call.now list.old (state opened «open».old readings.old sheet.old) (answered result list.new) (state opened «open».new readings.new sheet.new) }
 {
     match call {
-        Call::Append(reading) => open
-            .append(readings, sheet, *reading)
-            .map(|placed| Reply::Placed(placed.place, placed.word)),
+        Call::Append(reading) => open.append(readings, sheet, *reading).map(Reply::Placed),
         Call::Amend(place, reading) => open
             .amend(readings, sheet, *place, *reading)
             .map(Reply::Reworked),

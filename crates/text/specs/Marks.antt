@@ -1,5 +1,5 @@
 -- The marks, and how one is read.
-use Rattle.std.specs.Prelude.{ℕ, ◌+◌, Bool, cond, List, [], ◌∷◌, Some, None, Ok, Err, Option, Result, ◌==◌, slice_index}
+use Rattle.std.specs.Prelude.{ℕ, ◌+◌, Bool, cond, List, [], ◌∷◌, ◌++◌, Some, None, Ok, Err, Option, Result, ◌==◌, codes, decimal, slice_index}
 use Rattle.std.specs.Option.{ok_or}
 use Rattle.text.specs.declared.mark.Mark.{Mark}
 use Rattle.text.specs.declared.mark.NotMark.{NotMark}
@@ -38,6 +38,10 @@ byte_mark b =
 -- the same, of a byte that may be none
 abbrev pub mark_from : ℕ → Result Mark NotMark
 mark_from b = ok_or (byte_mark b) (record { 0 = b })
+
+-- `no mark` and the byte, one space between
+abbrev pub not_mark_line : NotMark → List ℕ
+not_mark_line n = codes "no mark " ++ decimal n.0
 
 -- the mark that a word of one byte is
 abbrev pub mark_in : List ℕ → Option Mark

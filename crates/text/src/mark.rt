@@ -1,10 +1,13 @@
 //! Marks: the bytes of a text that are no digits and mean something.
-ghost use Rattle.std.specs.Prelude.{◌≡◌, ℕ, ◌+◌, ◌<◌, ◌≤◌, true, length, IfOk};
-ghost use Rattle.text.specs.Marks.{mark_from, mark_in, is_mark, mark_taken};
+ghost use Rattle.std.specs.Prelude.{◌≡◌, ℕ, ◌+◌, ◌<◌, ◌≤◌, true, length, IfOk, Some};
+ghost use Rattle.text.specs.Marks.{mark_from, mark_in, is_mark, mark_taken, not_mark_line};
 
 use crate::lexer::{Word, next_word};
 use crate::refusal::{Layer, Refusal};
+use std::error::Error;
+use std::fmt;
 
+/// What a byte that is no digit means in a text.
 #[derive(Clone, Copy, PartialEq, Eq)]
 pub enum Mark {
     /// `-`, before each slot but the first, before a gap, and before a number below 0
@@ -78,6 +81,17 @@ pub fn take_mark(text: &[u8], at: usize, wanted: Mark, layer: Layer) -> Result<u
 /// A byte that is no mark.
 #[derive(Clone, Copy, PartialEq, Eq, Debug)]
 pub struct NotMark(pub u8);
+
+impl fmt::Display for NotMark {
+    ghost output = { λ n. Some (not_mark_line n) };
+
+    fn fmt<W: fmt::Write>(&self, f: &mut fmt::Formatter<W>) -> fmt::Result {
+        let byte = self.0;
+        write!(f, "no mark {byte}")
+    }
+}
+
+impl Error for NotMark {}
 
 impl TryFrom<u8> for Mark {
     type Error = NotMark;
