@@ -4,6 +4,7 @@ ghost use Rattle.std.specs.Prelude.{◌<◌};
 use std::alloc::{AllocError, Global};
 use std::fmt::Write;
 
+/// A source of numbers; its state alone says all that it gives.
 #[derive(Drop)]
 pub struct Random {
     state: u32,
@@ -47,11 +48,10 @@ impl Random {
         let mut text = String::new(heap);
         self.push_slot(&mut text)?;
         let short = self.below(2) == 0;
-        let slots = if short { self.below(6) } else { self.below(32) };
-        let widest = if short {
-            self.below(12)
+        let (slots, widest) = if short {
+            (self.below(6), self.below(12))
         } else {
-            self.below(64)
+            (self.below(32), self.below(64))
         };
         for _ in 0..slots {
             self.push_gap(&mut text, widest)?;
