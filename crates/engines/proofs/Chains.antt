@@ -1,8 +1,12 @@
 -- Steps one after another.
-use Rattle.std.proofs.Common.{◌≡◌, ℕ, suc, ◌+◌, ◌<◌, ◌≢◌, List, length, get_or, set, sym, refl, ◌∙◌, subst, arith, get_or-set_other, get_or-set_same}
+use Rattle.std.proofs.Common.{◌≡◌, ℕ, suc, ◌+◌, ◌<◌, ◌≤◌, ◌≢◌, List, [], ◌∷◌, ◌++◌, reverse, length, get_or, take, set, sym, refl, ap, ◌∙◌, subst, ⊎_elim, append_assoc, append-nil, arith, get_or-set_other, get_or-set_same}
+use Rattle.std.proofs.lemmas.List.{take_more}
+use Rattle.std.proofs.lemmas.Bool.{cases_lt}
 use Rattle.runs.specs.declared.signature.Signature.{Signature}
-use Rattle.engines.specs.Memory.{Memory, Stepped, Moved, Same, Steps}
+use Rattle.runs.specs.Bits.{bit}
+use Rattle.engines.specs.Memory.{Memory, Stepped, Moved, Recalls, Same, Steps}
 use Rattle.engines.specs.Memory.Steps.{none, more}
+use Rattle.engines.proofs.Recalled.{recalls_push}
 
 module _ (s : Signature) where
   -- no step yet
@@ -40,8 +44,34 @@ module _ (s : Signature) where
     none = t.none;
   }
 
+  pub moved_from : (says others after : Memory) (w : ℕ) → Same s says others → Moved s says w after → Moved s others w after
+  moved_from says others after w same t = record { newest = t.newest; older = λ j d l h. t.older j d l h ∙ sym (same j d l (omega arith)) }
+
   pub moved_to : (says after others : Memory) (w : ℕ) → Same s after others → Moved s says w after → Moved s says w others
   moved_to says after others w same t = record {
     newest = λ j l. same j 0 l (omega arith) ∙ t.newest j l;
     older = λ j d l h. same j (suc d) l h ∙ t.older j d l h;
   }
+
+  -- after n steps the memory is that of the words before and the n words
+  pub steps_recall : (past fits words : List ℕ) (says after : Memory) (n : ℕ) → n ≤ length words → Recalls s past says → Steps s fits words says n after → Recalls s (past ++ take n words) after
+  steps_recall past fits words says after _ l have (none same) = λ j d lj ld.
+      same j d lj ld ∙ have j d lj ld ∙ sym (ap (λ (ws : List ℕ). bit (get_or (reverse ws) d 0) j) (append-nil past))
+  steps_recall past fits words says after _ l have (more {n = n} {middle = middle} before stepped moved) =
+      let e : n + 1 ≡ suc n = omega arith in
+      let q : (past ++ take n words) ++ (get_or words n 0 ∷ []) ≡ past ++ take (suc n) words
+      = append_assoc past (take n words) (get_or words n 0 ∷ []) ∙ ap (λ (ws : List ℕ). past ++ ws) (sym (take_more words n 0 l) ∙ ap (λ i. take i words) e) in
+      subst (λ (ws : List ℕ). Recalls s ws after) q
+      (recalls_push s (past ++ take n words) middle after (get_or words n 0) (steps_recall past fits words says middle n (omega arith) have before) moved)
+
+  -- each of n words is a step from the memory of the words before it
+  pub steps_each : (past fits words : List ℕ) (says after : Memory) (n : ℕ) → n ≤ length words → Recalls s past says → Steps s fits words says n after
+      → (k : ℕ) → k < n → (middle : Memory) × Recalls s (past ++ take k words) middle × Stepped s middle (get_or fits k 0) (get_or words k 0)
+  steps_each past fits words says after _ l have (none same) k h = let z : ⊥ = omega arith in absurd z
+  steps_each past fits words says after _ l have (more {n = n} {middle = middle} before stepped moved) k h = ⊎_elim
+      (λ (lt : k < n). steps_each past fits words says middle n (omega arith) have before k lt)
+      (λ (le : n ≤ k).
+      let e : n ≡ k = omega arith in
+      let P : ℕ → Type 0 = λ k. (middle : Memory) × Recalls s (past ++ take k words) middle × Stepped s middle (get_or fits k 0) (get_or words k 0) in
+      subst P e (middle, steps_recall past fits words says middle n (omega arith) have before, stepped))
+      (cases_lt k n)

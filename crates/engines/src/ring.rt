@@ -21,6 +21,7 @@ pub struct Ring {
 
 impl Ring {
     /// An engine with no slots.
+    #[tactic(auto, using(crate::proofs::Rings::past_blank))]
     pub fn new() -> Ring
         ensures shape { Blank result.shape.signature }
         ensures memory { (j d : ℕ) → past_says result.past result.next j d ≡ false }

@@ -54,10 +54,17 @@ impl WrittenGauge for Current {
     ghost past = { current_past };
 
     fn write_slot(&mut self, slot: u32, text: &[u8], at: usize) -> Result<usize, Refusal> {
-        // As in `Event`, but for how a set is kept: a trait for the two would be longer than these four lines.
+        // As in `Event`, but for how a set is kept: a trait for the two would be longer than these lines.
         check_slot(slot, at)?;
-        let read = read_band(text, at);
-        self.bands[slot as usize] = read.ok().map(|read| read.value);
-        Ok(read?.end)
+        match read_band(text, at) {
+            Ok(read) => {
+                self.bands[slot as usize] = Some(read.value);
+                Ok(read.end)
+            }
+            Err(refusal) => {
+                self.bands[slot as usize] = None;
+                Err(refusal)
+            }
+        }
     }
 }

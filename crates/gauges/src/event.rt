@@ -47,10 +47,12 @@ impl Gauge for Event {
         self.table[usize::from(*reading)]
     }
 
-    #[tactic(auto, using(crate::specs::TablesLemmas::emptied_codes))]
     fn empty_slot(&mut self, slot: u32) {
         if slot < 32 {
-            self.mark_codes(slot, &Codes::new());
+            // no set of codes: one that has none would be made and read for each of the 32 slots that a reader empties
+            for entry in self.table.iter_mut() {
+                *entry = with_bit(*entry, slot, false);
+            }
         }
     }
 }
@@ -63,10 +65,18 @@ impl WrittenGauge for Event {
     ghost past = { event_past };
 
     fn write_slot(&mut self, slot: u32, text: &[u8], at: usize) -> Result<usize, Refusal> {
-        // As in `Current`, but for how a set is kept: a trait for the two would be longer than these four lines.
+        // As in `Current`, but for how a set is kept: a trait for the two would be longer than these lines. By a `match`, which lends
+        // the set as it was read: `map_or` would copy it.
         check_slot(slot, at)?;
-        let read = read_codes(text, at);
-        self.mark_codes(slot, &read.map_or(Codes::new(), |read| read.value));
-        Ok(read?.end)
+        match read_codes(text, at) {
+            Ok(read) => {
+                self.mark_codes(slot, &read.value);
+                Ok(read.end)
+            }
+            Err(refusal) => {
+                self.empty_slot(slot);
+                Err(refusal)
+            }
+        }
     }
 }

@@ -40,6 +40,54 @@ pub trait Joint<X, Y> {
     ghost spelled: { reads ≡ pair_at MARK join };
 }
 
+/// Empties the slot in both gauges.
+pub fn empty_pair<L: Gauge, R: Gauge>(left: &mut L, right: &mut R, slot: u32)
+    ensures left { Put slot nothing (L.Gauge.sets left.old) (L.Gauge.sets left.new) }
+    ensures right { Put slot nothing (R.Gauge.sets right.old) (R.Gauge.sets right.new) }
+{
+    left.empty_slot(slot);
+    right.empty_slot(slot);
+}
+
+// Writes left, mark and right as far as they are not refused.
+fn write_parts<L: WrittenGauge, R: WrittenGauge>(
+    left: &mut L,
+    right: &mut R,
+    mark: Mark,
+    slot: u32,
+    text: &[u8],
+    at: usize,
+) -> Result<usize, Refusal>
+    ensures value { result ≡ end_of slot at (parts_at mark L.WrittenGauge.reads R.WrittenGauge.reads text.now at) }
+    ensures left { is_ok result ≡ true → Put slot (left_of (parts_at mark L.WrittenGauge.reads R.WrittenGauge.reads text.now at)) (L.Gauge.sets left.old) (L.Gauge.sets left.new) }
+    ensures right { is_ok result ≡ true → Put slot (right_of (parts_at mark L.WrittenGauge.reads R.WrittenGauge.reads text.now at)) (R.Gauge.sets right.old) (R.Gauge.sets right.new) }
+    ensures others { (Kept slot (L.Gauge.sets left.old) (L.Gauge.sets left.new)) × (Kept slot (R.Gauge.sets right.old) (R.Gauge.sets right.new)) }
+{
+    let middle = left.write_slot(slot, text, at)?;
+    let next = take_mark(text, middle, mark, Layer::Slot)?;
+    right.write_slot(slot, text, next)
+}
+
+/// Writes the slot in both gauges; a refusal leaves it empty in both.
+pub fn write_pair<L: WrittenGauge, R: WrittenGauge>(
+    left: &mut L,
+    right: &mut R,
+    mark: Mark,
+    slot: u32,
+    text: &[u8],
+    at: usize,
+) -> Result<usize, Refusal>
+    ensures value { result ≡ end_of slot at (parts_at mark L.WrittenGauge.reads R.WrittenGauge.reads text.now at) }
+    ensures left { Put slot (left_of (parts_at mark L.WrittenGauge.reads R.WrittenGauge.reads text.now at)) (L.Gauge.sets left.old) (L.Gauge.sets left.new) }
+    ensures right { Put slot (right_of (parts_at mark L.WrittenGauge.reads R.WrittenGauge.reads text.now at)) (R.Gauge.sets right.old) (R.Gauge.sets right.new) }
+{
+    let written = write_parts(left, right, mark, slot, text, at);
+    if written.is_err() {
+        empty_pair(left, right, slot);
+    }
+    written
+}
+
 /// Two gauges and what they make together.
 #[derive(Drop)]
 pub struct Pair<L, R, K> {
@@ -70,8 +118,7 @@ where
         ensures left { Put slot nothing (L.Gauge.sets self.old.left) (L.Gauge.sets self.new.left) }
         ensures right { Put slot nothing (R.Gauge.sets self.old.right) (R.Gauge.sets self.new.right) }
     {
-        self.left.empty_slot(slot);
-        self.right.empty_slot(slot);
+        empty_pair(&mut self.left, &mut self.right, slot)
     }
 }
 
@@ -81,29 +128,13 @@ where
     R: WrittenGauge,
     K: Joint<L::Reading, R::Reading>,
 {
-    // Writes left, mark and right as far as they are not refused.
-    fn write_parts(&mut self, slot: u32, text: &[u8], at: usize) -> Result<usize, Refusal>
-        ensures value { result ≡ end_of slot at (parts_at K.Joint.MARK L.WrittenGauge.reads R.WrittenGauge.reads text.now at) }
-        ensures left { is_ok result ≡ true → Put slot (left_of (parts_at K.Joint.MARK L.WrittenGauge.reads R.WrittenGauge.reads text.now at)) (L.Gauge.sets self.old.left) (L.Gauge.sets self.new.left) }
-        ensures right { is_ok result ≡ true → Put slot (right_of (parts_at K.Joint.MARK L.WrittenGauge.reads R.WrittenGauge.reads text.now at)) (R.Gauge.sets self.old.right) (R.Gauge.sets self.new.right) }
-        ensures others { (Kept slot (L.Gauge.sets self.old.left) (L.Gauge.sets self.new.left)) × (Kept slot (R.Gauge.sets self.old.right) (R.Gauge.sets self.new.right)) }
-    {
-        let middle = self.left.write_slot(slot, text, at)?;
-        let next = take_mark(text, middle, K::MARK, Layer::Slot)?;
-        self.right.write_slot(slot, text, next)
-    }
-
     /// Writes the slot in both gauges; a refusal leaves it empty in both.
     pub fn write_pair(&mut self, slot: u32, text: &[u8], at: usize) -> Result<usize, Refusal>
         ensures value { result ≡ end_of slot at (parts_at K.Joint.MARK L.WrittenGauge.reads R.WrittenGauge.reads text.now at) }
         ensures left { Put slot (left_of (parts_at K.Joint.MARK L.WrittenGauge.reads R.WrittenGauge.reads text.now at)) (L.Gauge.sets self.old.left) (L.Gauge.sets self.new.left) }
         ensures right { Put slot (right_of (parts_at K.Joint.MARK L.WrittenGauge.reads R.WrittenGauge.reads text.now at)) (R.Gauge.sets self.old.right) (R.Gauge.sets self.new.right) }
     {
-        let written = self.write_parts(slot, text, at);
-        if written.is_err() {
-            self.empty_pair(slot);
-        }
-        written
+        write_pair(&mut self.left, &mut self.right, K::MARK, slot, text, at)
     }
 }
 

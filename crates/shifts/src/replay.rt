@@ -26,8 +26,9 @@ where
     ensures { MatchResult result (λ o. Replayed (meaning G.Gauge E.Engine) E.Engine.LIMIT gauge signature.now readings.old sheet.old requests.old requests.new o readings.new sheet.new) (UnopenedShift E.Engine.LIMIT gauge engine signature.now readings.old sheet.old requests.old requests.new readings.new sheet.new) }
 {
     let mut kept = Kept::Open(Record::open(gauge, engine, signature, readings, sheet)?);
-    for request in requests.iter_mut() {
-        kept = kept.carry_out(readings, sheet, request);
+    // by number: over `iter_mut` the proof refuses a loop over a part of the list for that form alone, also over all of it
+    for i in 0..requests.len() {
+        kept = kept.carry_out(readings, sheet, &mut requests[i]);
     }
     Ok(kept.close())
 }

@@ -1,48 +1,39 @@
-use Rattle.std.proofs.Common.{◌≡◌, ◌+◌, ◌-◌, ◌<◌, ◌≤◌, List, [], ◌∷◌, length, get_or, sym, ap, ◌∙◌, subst, arith, rules, of_calls}
-use Rattle.std.specs.Array.{list_steps}
-use Rattle.std.specs.Iterator.{Yields}
+use Rattle.std.proofs.Common.{◌≡◌, ℕ, ◌+◌, ◌-◌, ◌<◌, ◌≤◌, ◌≢◌, List, length, get_or, set, refl, sym, ap, ◌∙◌, subst, arith, length-set, get_or-set_other, get_or-set_same, below_more}
 use Rattle.runs.specs.declared.gap.Gap.{Gap}
 use Rattle.runs.specs.declared.signature.Signature.{Signature}
-use Rattle.runs.specs.Gaps.{no_gap}
+use Rattle.runs.specs.Gaps.{low, high}
 use Rattle.runs.specs.Signatures.{gaps_of}
 use Rattle.engines.specs.Blocks.{block}
 use Rattle.engines.specs.Masked.{Allows}
-use Rattle.engines.proofs.Signatures.{same}
+use Rattle.engines.proofs.Signatures.{gaps_length, gap_sound}
 use Rattle.engines.proofs.windows.Windows.new.Goals as goal
 
--- an item that comes after others stands at the place that they end at
-place : (xs s t : List Gap) (x : Gap) (u : List Gap) → Yields list_steps s xs t → t ≡ x ∷ u → (length xs < length s) × (get_or s (length xs) no_gap ≡ x)
-place [] s t x u y e = let q : s ≡ x ∷ u = y ∙ e in (omega (arith, ap length q), ap (λ (l : List Gap). get_or l 0 no_gap) q)
-place (z ∷ xs) s t x u y e =
-    let r = place xs y.0 t x u y.2 e in
-    (omega (arith, ap length y.1, r.0), ap (λ (l : List Gap). get_or l (length (z ∷ xs)) no_gap) y.1 ∙ r.1)
+more : (gs : List Gap) (allowed : List ℕ) (j window : ℕ) → j < 31 → length allowed ≡ 31 → Allows gs j allowed → window ≡ block (low gs j) (high gs j - low gs j + 1) → Allows gs (j + 1) (set allowed j window)
+more gs allowed j window l long have e = below_more (λ i. get_or (set allowed j window) i 0 ≡ block (low gs i) (high gs i - low gs i + 1)) j
+    (λ i h. let ne : i ≢ j = omega arith in get_or-set_other allowed j i window 0 ne ∙ have i h)
+    (get_or-set_same allowed j window 0 (omega arith) ∙ e)
 
-pub map-requires : goal.map-requires
-map-requires c =
-    let s = c.args.signature.now in (
-      search rules,
-      (
-        search rules,
-        (
-          search rules,
-          record {
-            at = λ xs t q x u y folds step.
-                let p = place xs s.gaps t x u y step in
-                let lt : length xs < 31 = omega (arith, p.0, s.long) in
-                let ordered : x.lo ≤ x.hi = omega (arith, s.ordered (length xs) lt, ap (λ (g : Gap). g.lo) p.1, ap (λ (g : Gap). g.hi) p.1) in
-                let narrow : x.hi ≤ 63 = omega (arith, s.narrow (length xs) lt, ap (λ (g : Gap). g.hi) p.1) in
-                search (rules, of_calls);
-          },
-        ),
-      ),
-    )
+pub overflow_sub-gap : goal.overflow_sub-gap
+overflow_sub-gap c = (gap_sound c.args.signature.now _ _ c.used_gaps-gaps.ensures c.loop-j-test.true).ordered
+
+pub ones-requires : goal.ones-requires
+ones-requires c = let o = gap_sound c.args.signature.now _ _ c.used_gaps-gaps.ensures c.loop-j-test.true in omega (arith, o.ordered, o.narrow)
+
+pub loop-j-init : goal.loop-j-init
+loop-j-init c = (refl, λ j l. let z : ⊥ = omega arith in absurd z)
+
+pub loop-j-preserved : goal.loop-j-preserved
+loop-j-preserved c =
+    let inv = c.loop-j.invariant in
+    let o = gap_sound c.args.signature.now _ _ c.used_gaps-gaps.ensures c.loop-j-test.true in
+    (simp length-set inv.0, more _ _ _ _ o.few inv.0 inv.1 (simp (c.from.ensures, c.from-in-loop-j.ensures) at c.ones.ensures))
 
 pub invariant_of-result : goal.invariant_of-result
 invariant_of-result c =
     let s = c.args.signature.now in
-    let allows : Allows (gaps_of s) (s.slots - 1) c.map.result = λ j h.
-    let g = get_or s.gaps j no_gap in
-    let called = (c.map.ensures.items.at j no_gap 0 (omega (arith, s.few))).2 in
-    let made : get_or c.map.result j 0 ≡ block g.lo (g.hi - g.lo + 1) = search (rules, of_calls) in
-    made ∙ ap (λ (g : Gap). block g.lo (g.hi - g.lo + 1)) (sym (same s j (omega (arith, h)))) in
-    record { allows = subst (λ (s : Signature). Allows (gaps_of s) (s.slots - 1) c.map.result) (sym c.new.ensures) allows }
+    let l = c.loop-j in
+    let n = gaps_length s in
+    let same = ap length c.used_gaps-gaps.ensures in
+    let all : s.slots - 1 ≤ l.j = omega (arith, c.loop-j-test.false) in
+    let have : Allows (gaps_of s) l.j l.allowed = subst (λ (gs : List Gap). Allows gs l.j l.allowed) c.used_gaps-gaps.ensures l.invariant.1 in
+    record { allows = subst (λ (s : Signature). Allows (gaps_of s) (s.slots - 1) l.allowed) (sym c.new.ensures) (λ j h. have j (omega arith)) }
