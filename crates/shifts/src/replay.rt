@@ -26,7 +26,7 @@ where
     ensures { MatchResult result (λ o. Replayed (meaning G.Gauge E.Engine) E.Engine.LIMIT gauge signature.now readings.old sheet.old requests.old requests.new o readings.new sheet.new) (UnopenedShift E.Engine.LIMIT gauge engine signature.now readings.old sheet.old requests.old requests.new readings.new sheet.new) }
 {
     let mut kept = Kept::Open(Record::open(gauge, engine, signature, readings, sheet)?);
-    // by number: over `iter_mut` the proof refuses a loop over a part of the list for that form alone, also over all of it
+    // by number: over `iter_mut` an edit that leaves a request out is refused for its form, as a right body of that form is too
     for i in 0..requests.len() {
         kept = kept.carry_out(readings, sheet, &mut requests[i]);
     }
