@@ -7,7 +7,6 @@ ghost use Rattle.engines.specs.Memory.{Seen, Stepped, Moved};
 use crate::engine::{Engine, newest};
 use crate::strips::mark_strips;
 use crate::windows::Windows;
-use runs::bits::bears;
 use runs::signature::Signature;
 
 /// Bit d of `masks[j]` says whether a run of the first j + 1 slots ended d places before the latest: it takes every signature.
@@ -60,7 +59,8 @@ impl Masks {
     {
         let used = self.windows.shape.signature.used_gaps().len();
         for (j, mask) in self.masks[..used].iter_mut().enumerate() {
-            *mask = (*mask << 1) | u64::from(bears(word, j as u32));
+            // no `bears`: its test for slots past the 32nd, which there are none of, takes as long as the rest of the turn
+            *mask = (*mask << 1) | u64::from((word >> j) & 1 == 1);
         }
     }
 }

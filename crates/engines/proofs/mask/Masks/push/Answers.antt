@@ -1,5 +1,6 @@
-use Rattle.std.proofs.Common.{◌≡◌, ◌-◌, length, ap, ◌∙◌, arith}
+use Rattle.std.proofs.Common.{◌≡◌, ◌-◌, eqb, length, ap, ◌∙◌, arith}
 use lib.Bits.{bit_or}
+use Rattle.std.proofs.lemmas.Nat.{and_mask}
 use Rattle.engines.proofs.Masked.{shifted_none, shifted_more, shifted_all}
 use Rattle.engines.proofs.Signatures.{gaps_length}
 use Rattle.engines.proofs.mask.Masks.push.Goals as goal
@@ -8,7 +9,7 @@ pub loop-j-init : goal.loop-j-init
 loop-j-init c = shifted_none _ _
 
 pub loop-j-preserved : goal.loop-j-preserved
-loop-j-preserved c = shifted_more _ _ _ _ _ _ (omega arith) c.bears.ensures (ap (bit_or _) c.from.ensures) c.loop-j.invariant
+loop-j-preserved c = shifted_more _ _ _ _ _ _ (omega arith) (ap (λ n. eqb n 1) (and_mask _ 1)) (ap (bit_or _) c.from.ensures) c.loop-j.invariant
 
 pub returns-clause-memory : goal.returns-clause-memory
 returns-clause-memory c =
