@@ -33,9 +33,11 @@ fn ask<G: Gauge, E: Engine, S>(
     match call {
         Call::Word(place) => record.word(readings, sheet, *place).map(Reply::Word),
         Call::NextHit(from) => record.next_hit(readings, sheet, *from).map(Reply::Hit),
-        Call::NextFinalHit(from) => record
-            .next_final_hit(readings, sheet, *from)
-            .map(Reply::Hit),
+        // a `match`: with `map` an edit that asks for any hit is refused for a name alone
+        Call::NextFinalHit(from) => match record.next_final_hit(readings, sheet, *from) {
+            Ok(hit) => Ok(Reply::Hit(hit)),
+            Err(refusal) => Err(refusal),
+        },
         Call::Trace(end) => record
             .trace(readings, sheet, *end, list)
             .map(|()| Reply::Traced),

@@ -1,6 +1,6 @@
 use Rattle.std.proofs.Common.{rules, refl}
 use Rattle.records.specs.declared.call.Reply.TheVariants.{Word as Bears, Hit, Named}
-use Rattle.shifts.proofs.Asking.{replied_by, asks_mapped}
+use Rattle.shifts.proofs.Asking.{replied_by, asks_by, asks_mapped}
 use Rattle.shifts.proofs.carrying.ask.Goals as goal
 
 pub returns-in-Word : goal.returns-in-Word
@@ -12,10 +12,11 @@ returns-in-NextHit g c =
     asks_mapped _ _ _ _ _ _ _ _ Hit c.next_hit.result c.map-in-NextHit.result c.in-NextHit.is refl (replied_by Hit _ _ c.map-in-NextHit.ensures.cases (λ x y k. search rules))
     (λ stage. c.next_hit.ensures.keeps stage c.args.list.now)
 
-pub returns-in-NextFinalHit : goal.returns-in-NextFinalHit
-returns-in-NextFinalHit g c =
-    asks_mapped _ _ _ _ _ _ _ _ Hit c.next_final_hit.result c.map-in-NextFinalHit.result c.in-NextFinalHit.is refl (replied_by Hit _ _ c.map-in-NextFinalHit.ensures.cases (λ x y k. search rules))
-    (λ stage. c.next_final_hit.ensures.keeps stage c.args.list.now)
+pub returns-in-Ok : goal.returns-in-Ok
+returns-in-Ok g c = asks_by _ _ _ _ _ _ _ _ c.in-NextFinalHit.is refl (λ stage. c.in-Ok.ensures.keeps stage c.args.list.now)
+
+pub returns-in-Err : goal.returns-in-Err
+returns-in-Err g c = asks_by _ _ _ _ _ _ _ _ c.in-NextFinalHit.is refl (λ stage. c.in-Err.ensures.keeps stage c.args.list.now)
 
 pub returns-in-FinalHits : goal.returns-in-FinalHits
 returns-in-FinalHits g c =
